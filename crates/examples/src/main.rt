@@ -1,0 +1,29 @@
+// Worked examples over the library, run: one line for each with what was expected and got, and a last line that counts them. Each
+// module has the examples of one part of the library; to add an example, add its line there and to the file stdout.
+mod dates;
+mod digits;
+mod expect;
+mod naming;
+mod times;
+
+use expect::Tally;
+use expect::print;
+use expect::print_number;
+
+fn summary(tally: Tally) {
+    print_number(tally.run);
+    print(b" examples, ");
+    print_number(tally.differ);
+    print(b" differ\n");
+}
+
+fn main() {
+    let mut t = Tally::new();
+    t = digits::run(t);
+    t = dates::leap_days(t);
+    t = dates::limits(t);
+    t = dates::months(t);
+    t = times::run(t);
+    t = naming::run(t);
+    summary(t);
+}

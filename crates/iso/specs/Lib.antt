@@ -1,0 +1,2 @@
+pub mod Gregorian
+pub mod TimeOfDay

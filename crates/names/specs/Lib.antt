@@ -1,0 +1,4 @@
+pub mod Grammar
+pub mod Field
+pub mod Scan
+pub mod Name

@@ -1,0 +1,4 @@
+pub mod Goals
+pub mod Refusals
+pub mod Separators
+pub mod Steps

@@ -1,0 +1,44 @@
+// The records of stamps and durations, by value, with the settings that shape their texts, and what a reading gives. An optional part is an
+// enum of its own. A name is a place and a length in one text that is lent beside the record.
+pub mod duration;
+pub mod goal;
+pub mod shown;
+pub mod stamp;
+
+pub use duration::DateDuration;
+pub use duration::DateDurationPart;
+pub use duration::Duration;
+pub use duration::TimeDuration;
+pub use goal::Goal;
+pub use goal::GoalChoice;
+pub use goal::goal_number;
+pub use goal::goal_of;
+pub use shown::ClockPart;
+pub use shown::MarkedName;
+pub use shown::NamePart;
+pub use shown::Reading;
+pub use shown::Shown;
+pub use shown::ShownOffset;
+pub use shown::SignedClock;
+pub use shown::reading_refusal;
+pub use stamp::Calendar;
+pub use stamp::CalendarPart;
+pub use stamp::Clock;
+pub use stamp::Date;
+pub use stamp::DatePart;
+pub use stamp::DisplayCalendar;
+pub use stamp::DisplayOffset;
+pub use stamp::DisplayTimeZone;
+pub use stamp::Name;
+pub use stamp::Offset;
+pub use stamp::OffsetPart;
+pub use stamp::Precision;
+pub use stamp::Sign;
+pub use stamp::SignedTime;
+pub use stamp::Stamp;
+pub use stamp::Time;
+pub use stamp::TimePart;
+pub use stamp::UtcOffset;
+pub use stamp::Zone;
+pub use stamp::ZonePart;
+pub use stamp::joined_nanosecond;

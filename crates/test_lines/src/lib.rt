@@ -1,0 +1,4 @@
+// For the test programs only: the fields of vector lines, and answers in their words.
+pub mod answer;
+pub mod buffer;
+pub mod fields;

@@ -1,0 +1,7 @@
+-- What several proofs, and the crates above, cite.
+pub mod Tests
+pub mod PutLaws
+pub mod DigitLaws
+pub mod NumberLaws
+pub mod Answers
+mod Examples

@@ -1,0 +1,5 @@
+pub mod Put
+pub mod Digits
+pub mod Answer
+pub mod Refusal
+pub mod Walk
