@@ -5,6 +5,7 @@ mod digits;
 mod expect;
 mod naming;
 mod times;
+mod writing;
 
 use expect::Tally;
 use expect::print;
@@ -25,5 +26,12 @@ fn main() {
     t = dates::months(t);
     t = times::run(t);
     t = naming::run(t);
+    t = writing::dates(t);
+    t = writing::times(t);
+    t = writing::offsets(t);
+    t = writing::annotations(t);
+    t = writing::partials(t);
+    t = writing::stamps(t);
+    t = writing::durations(t);
     summary(t);
 }

@@ -1,2 +1,3 @@
+-- The definitions that the contracts of this crate, and the crates above, cite.
 pub mod Gregorian
 pub mod TimeOfDay

@@ -1,20 +1,14 @@
 -- Names of document 01's grammar and texts that are none, computed. Assumes nothing.
 use Prim.Native.Nat.{ℕ}
-use Prim.Native.Char.{code}
 use Prim.Native.String.{String}
-use Prim.Native.String as str
 use mathlib.Core.Bool.{Bool, true, false}
 use mathlib.Core.Path.{_≡_, refl}
-use mathlib.Core.List.{List, [], _∷_}
+use mathlib.Core.List.{List}
 use lib.ListN.{length, replicate}
+use Rattle.text.proofs.Quoted.{bytes}
 use Rattle.names.specs.Field.{digit, pairOf, field}
 use Rattle.names.specs.Scan.{wordStep, joinStep, dotStep, keyStep, runStep, partStep, valueStep, zoneStep, step, wholeOf, runOf, keyRun, calendarRun, numericOf, numericRun, zoneRun}
 use Rattle.names.specs.Name.{nameInside, nameOk, zoneNameOk, calendarNameOk}
-
--- a quoted text as its bytes
-bytes : String → List ℕ
-bytes str.[] = []
-bytes (str._∷_ c s) = code c ∷ bytes s
 
 -- whether all of a text is a name; a place of 64 letters, and one more
 zone : String → Bool

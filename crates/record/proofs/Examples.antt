@@ -5,7 +5,7 @@ use Rattle.record.specs.declared.goal.GoalChoice.the-variants.{Is, Unkno
 use Rattle.record.specs.declared.goal.Goal.the-variants.{Stamp, MonthDay}
 use Rattle.record.specs.declared.stamp.Precision.the-variants.{Auto, Minute}
 use Rattle.record.specs.declared.stamp.Sign.the-variants.{Negative, Positive}
-use Rattle.record.specs.declared.stamp.UtcOffset.the-variants.{Z, Offset}
+use Rattle.record.specs.declared.stamp.UtcOffset.the-variants.{Offset}
 use Rattle.record.specs.declared.stamp.DisplayOffset.the-variants.{Never}
 use Rattle.record.specs.Goals.{choices, goalOf}
 use Rattle.record.specs.Separators.{separatorsOn}

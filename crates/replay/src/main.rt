@@ -1,7 +1,9 @@
 // Replays a list of vectors from standard input: each line that is answered otherwise than it says is printed with what was got, and
 // the last line counts them. The list may be of any size; it comes in chunks, and answers go out in chunks.
+mod checks;
 mod judge;
 mod output;
+mod writers;
 
 use judge::Judged;
 use judge::MOST;
@@ -11,6 +13,8 @@ use output::put_number;
 use output::put_text;
 use test_lines::buffer::between;
 use test_lines::buffer::put_byte;
+use test_records::written::BLANK;
+use test_records::written::PAPER;
 use text::walk::first;
 use text::walk::rest;
 use text::walk::same;
@@ -105,7 +109,8 @@ fn malformed(line: &[u8], out: &mut [u8], state: State) -> State {
 
 fn replay(line: &[u8], out: &mut [u8], state: State) -> State {
     let mut got = [0u8; ANSWER];
-    match judge::judge(line, &mut got) {
+    let mut paper = [BLANK; PAPER];
+    match judge::judge(line, &mut got, &mut paper) {
         Judged::Unknown => state.skip(),
         Judged::Malformed => malformed(line, out, state),
         Judged::Got { len, from } => settle(

@@ -58,6 +58,13 @@ pub struct I64 {
     pub next: usize,
 }
 
+// A yes or a no.
+pub struct Flag {
+    pub ok: bool,
+    pub value: bool,
+    pub next: usize,
+}
+
 // A text that was decoded: its bytes are the first `len` of the lent buffer.
 pub struct Hex {
     pub ok: bool,
@@ -94,7 +101,7 @@ fn after(line: &[u8], end: usize) -> usize {
 }
 
 // The place to read on from.
-fn onward(ok: bool, next: usize) -> usize {
+pub fn onward(ok: bool, next: usize) -> usize {
     if ok { next } else { NOWHERE }
 }
 
@@ -166,7 +173,7 @@ pub fn u64_at(line: &[u8], at: usize) -> U64 {
 }
 
 // A number of at most `most`.
-fn bounded_at(line: &[u8], at: usize, most: u64) -> U64
+pub fn bounded_at(line: &[u8], at: usize, most: u64) -> U64
     ensures { λ r. ⌜ r .value ≤ most ⌝ }
 {
     let n = u64_at(line, at);
@@ -212,6 +219,16 @@ pub fn u32_at(line: &[u8], at: usize) -> U32 {
     }
 }
 
+// 1 is yes, 0 is no.
+pub fn flag_at(line: &[u8], at: usize) -> Flag {
+    let n = bounded_at(line, at, 1);
+    Flag {
+        ok: n.ok,
+        value: n.value == 1,
+        next: n.next,
+    }
+}
+
 pub fn usize_at(line: &[u8], at: usize) -> Usize {
     let n = u64_at(line, at);
     Usize {
@@ -222,11 +239,11 @@ pub fn usize_at(line: &[u8], at: usize) -> Usize {
 }
 
 // A sign and a magnitude.
-struct Magnitude {
-    ok: bool,
-    negative: bool,
-    value: u64,
-    next: usize,
+pub struct Magnitude {
+    pub ok: bool,
+    pub negative: bool,
+    pub value: u64,
+    pub next: usize,
 }
 
 // How many bytes a sign has.
@@ -234,7 +251,8 @@ fn sign_len(negative: bool) -> usize {
     if negative { 1 } else { 0 }
 }
 
-fn magnitude_at(line: &[u8], at: usize) -> Magnitude {
+// A number with its sign apart.
+pub fn magnitude_at(line: &[u8], at: usize) -> Magnitude {
     let span = field_at(line, at);
     let word = between(line, span.start, span.end);
     let negative = first(word) == MINUS;

@@ -4,4 +4,5 @@ pub mod PutLaws
 pub mod DigitLaws
 pub mod NumberLaws
 pub mod Answers
+pub mod Quoted
 mod Examples

@@ -1,8 +1,6 @@
 -- `text::put::fraction_bytes` meets its contract: no bytes, or a point and the digits. Assumes nothing.
-use mathlib.Core.Path.{ap}
 use native.Mathlib.Omega.{arith}
 use borrow.Author.Needs.{needs}
-use lib.ListN.{length}
 use Rattle.text.proofs.DigitLaws.{fraction-none, length-fraction}
 use Rattle.text.proofs.put.fraction_bytes.Statement.{statement}
 use Rattle.text.proofs.put.fraction_bytes.Tie as tie

@@ -1,0 +1,43 @@
+use borrow.Author.Needs.{needs}
+use Rattle.date_syntax.proofs.after_month_day.Statement.{statement}
+use Rattle.date_syntax.proofs.after_month_day.Tie as tie
+use Rattle.date_syntax.proofs.after_month_day.Reads as reads
+use Rattle.date_syntax.proofs.after_month_day.Lts as lts
+use Rattle.text.proofs.walk.rest.Reads as rest-reads
+
+enum-known-d : tie.Need-enum-known-d
+enum-known-d c = search needs
+
+rest-requires : tie.Need-rest-requires
+rest-requires c κs = search needs
+
+rest-requires-2 : tie.Need-rest-requires-2
+rest-requires-2 c κs = search needs
+
+enum-told : tie.Need-enum-told
+enum-told c = search needs
+
+rest-requires-3 : tie.Need-rest-requires-3
+rest-requires-3 c κs = search needs
+
+returns : tie.Need-returns
+returns c = simp (c .before .before .before .d .given .1, c .before .if1 .taken, c .rest .ensures)
+
+returns-2 : tie.Need-returns-2
+returns-2 c = simp (c .before .before .before .d .given .1, c .before .if1 .left, c .rest2 .ensures)
+
+returns-3 : tie.Need-returns-3
+returns-3 c = search needs
+
+pub after-month-day-spec : {M : Type 1} → statement M
+after-month-day-spec =
+    tie.close
+    (tie.spec
+    enum-known-d
+    rest-requires
+    rest-requires-2
+    enum-told
+    rest-requires-3
+    returns
+    returns-2
+    returns-3)

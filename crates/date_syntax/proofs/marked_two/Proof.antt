@@ -1,0 +1,30 @@
+use Rattle.date_syntax.specs.Read.{marked}
+use Rattle.text.proofs.Tests.{tests}
+use borrow.Author.Needs.{needs}
+use Rattle.date_syntax.proofs.marked_two.Statement.{statement}
+use Rattle.date_syntax.proofs.marked_two.Tie as tie
+use Rattle.date_syntax.proofs.marked_two.Reads as reads
+use Rattle.date_syntax.proofs.marked_two.Lts as lts
+use Rattle.names.proofs.field.two.Reads as two-reads
+use Rattle.text.proofs.walk.first.Reads as first-reads
+use Rattle.text.proofs.walk.rest.Reads as rest-reads
+
+first-requires : tie.Need-first-requires
+first-requires c κs = search needs
+
+rest-requires : tie.Need-rest-requires
+rest-requires c κs = search needs
+
+two-requires : tie.Need-two-requires
+two-requires c κs = search needs
+
+returns : tie.Need-returns
+unfolding marked
+returns c = search (tests, c .two .ensures, c .before .rest .ensures, ← c .before .before .before .first .ensures)
+
+returns-2 : tie.Need-returns-2
+unfolding marked
+returns-2 c = search (tests, ← c .before .first .ensures)
+
+pub marked-two-spec : {M : Type 1} → statement M
+marked-two-spec = tie.close (tie.spec first-requires rest-requires two-requires returns returns-2)

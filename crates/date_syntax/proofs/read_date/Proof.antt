@@ -1,0 +1,49 @@
+use Rattle.date_syntax.specs.Read.{date}
+use borrow.Author.Needs.{needs}
+use Rattle.date_syntax.proofs.read_date.Statement.{statement}
+use Rattle.date_syntax.proofs.read_date.Tie as tie
+use Rattle.date_syntax.proofs.read_date.Reads as reads
+use Rattle.date_syntax.proofs.read_date.Lts as lts
+use Rattle.date_syntax.proofs.date_of.Reads as date-of-reads
+use Rattle.date_syntax.proofs.marked_two.Reads as marked-two-reads
+use Rattle.date_syntax.proofs.read_year.Reads as read-year-reads
+use Rattle.date_syntax.proofs.year_len.Reads as year-len-reads
+use Rattle.text.proofs.walk.rest.Reads as rest-reads
+
+read-year-requires : tie.Need-read-year-requires
+read-year-requires c κs = search needs
+
+year-len-requires : tie.Need-year-len-requires
+year-len-requires c κs = search needs
+
+rest-requires : tie.Need-rest-requires
+rest-requires c κs = search needs
+
+marked-two-requires : tie.Need-marked-two-requires
+marked-two-requires c κs = search needs
+
+rest-requires-2 : tie.Need-rest-requires-2
+rest-requires-2 c κs = search needs
+
+marked-two-requires-2 : tie.Need-marked-two-requires-2
+marked-two-requires-2 c κs = search needs
+
+date-of-requires : tie.Need-date-of-requires
+date-of-requires c κs = search needs
+
+returns : tie.Need-returns
+unfolding date
+returns c = cc
+
+pub read-date-spec : {M : Type 1} → statement M
+read-date-spec =
+    tie.close
+    (tie.spec
+    read-year-requires
+    year-len-requires
+    rest-requires
+    marked-two-requires
+    rest-requires-2
+    marked-two-requires-2
+    date-of-requires
+    returns)

@@ -1,0 +1,5 @@
+-- What several proofs, and the crates above, cite.
+pub mod PartialLaws
+pub mod StampLaws
+pub mod Longest
+mod Examples

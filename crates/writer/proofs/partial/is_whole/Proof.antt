@@ -1,0 +1,11 @@
+-- `writer::partial::is_whole` meets its contract. Assumes nothing.
+use mathlib.Core.Path.{ap, _∙_}
+use Rattle.writer.specs.Partial.{wholeDate}
+use Rattle.writer.proofs.partial.is_whole.Statement.{statement}
+use Rattle.writer.proofs.partial.is_whole.Tie as tie
+
+returns : tie.Need-returns
+returns c = c .whole-date .ensures ∙ ap (wholeDate (c .before .before .before .args .c .show)) (c .before .is-iso .ensures)
+
+pub is-whole-spec : {M : Type 1} → statement M
+is-whole-spec = tie.close (tie.spec (λ c κs. tt) (λ c κs. tt) returns)

@@ -1,0 +1,31 @@
+-- `writer::partial::year_month_length` meets its contract: the tests in their order decide between the refusals and the length. Assumes nothing.
+use mathlib.Core.Path.{ap, sym, _∙_}
+use Rattle.text.specs.declared.LengthAnswer.the-variants as len
+use Rattle.writer.specs.Partial.{yearMonthJudged}
+use Rattle.writer.proofs.partial.year_month_length.Statement.{statement}
+use Rattle.writer.proofs.partial.year_month_length.Tie as tie
+
+year-month-bytes-requires : tie.Need-year-month-bytes-requires
+year-month-bytes-requires c κs = sym (c .before .calendar-ok .ensures) ∙ c .if2 .taken
+
+returns : tie.Need-returns
+unfolding yearMonthJudged
+returns c =
+    let i = c .before in
+    let g = i .before .before in
+    rw (sym (g .before .date-ok .ensures) ∙ g .if1 .taken, sym (i .before .calendar-ok .ensures) ∙ i .if2 .taken)
+    (ap len.Length (c .year-month-bytes .ensures .count))
+
+returns-2 : tie.Need-returns-2
+unfolding yearMonthJudged
+returns-2 c =
+    let g = c .before .before in
+    rw (sym (g .before .date-ok .ensures) ∙ g .if1 .taken, sym (c .before .calendar-ok .ensures) ∙ c .if2 .left)
+
+returns-3 : tie.Need-returns-3
+unfolding yearMonthJudged
+returns-3 c = rw (sym (c .before .date-ok .ensures) ∙ c .if1 .left)
+
+pub year-month-length-spec : {M : Type 1} → statement M
+year-month-length-spec =
+    tie.close (tie.spec (λ c κs. tt) (λ c κs. tt) year-month-bytes-requires returns returns-2 returns-3)
