@@ -1,9 +1,9 @@
 -- The readers of dates, year-months and month-days invert the grammar: theorems `date-exact`, `year-month-exact`, `month-day-exact`. Assumes nothing.
 use Prim.Native.Nat.{ℕ, _+_, _/_, _%_, _<_}
 use native.Mathlib.Omega.{arith}
-use mathlib.Core.Bool.{Bool, true, false, cond, _&&_, false≢true}
+use mathlib.Core.Bool.{Bool, true, false, cond, false≢true}
 use mathlib.Core.Path.{_≡_, refl, sym, _∙_, ap}
-use mathlib.Core.List.{List, [], _∷_, _++_, append-assoc}
+use mathlib.Core.List.{List, _∷_, _++_, append-assoc}
 use lib.ListN.{drop}
 use lib.Seq.{drop-drop}
 use lib.Dec.{ltb, eqb}
@@ -18,7 +18,7 @@ use Rattle.date_syntax.specs.declared.YearRead.{YearRead}
 use Rattle.date_syntax.specs.declared.DateRead.{DateRead}
 use Rattle.date_syntax.specs.declared.MonthDayRead.{MonthDayRead}
 use Rattle.date_syntax.specs.Read.{marked, year, yearLen, dateOf, date, yearMonth, dateGood, afterDate, afterYearMonth, dashes, monthDayOf, monthDayAt, monthDay, monthDayGood, afterMonthDay}
-use Rattle.date_syntax.specs.Syntax.{YearTree, yearForm, yearText, YearForm, DateTree, dateText, DateOk, dateKept, YearMonthTree, yearMonthText, YearMonthOk, yearMonthKept, MonthDayTree, dashText, monthDayText, MonthDayOk, monthDayKept, Anything}
+use Rattle.date_syntax.specs.Syntax.{yearForm, yearText, DateTree, dateText, DateOk, dateKept, YearMonthTree, yearMonthText, YearMonthOk, yearMonthKept, MonthDayTree, dashText, monthDayText, MonthDayOk, monthDayKept, Anything}
 use Rattle.date_syntax.proofs.YearLaws.{marked-text, marked-sound, year-text, year-sound}
 
 -- ---- what all three share

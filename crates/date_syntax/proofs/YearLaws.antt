@@ -5,11 +5,11 @@ use Prim.Native.Nat.{ℕ, _+_, _*_, _/_, _%_, _<_, _≤_}
 use native.Mathlib.Omega.{arith}
 use mathlib.Core.Bool.{Bool, true, false, cond, _&&_}
 use mathlib.Core.Path.{_≡_, refl, sym, _∙_, ap}
-use mathlib.Core.List.{List, [], _∷_, _++_}
+use mathlib.Core.List.{List, _∷_, _++_}
 use lib.ListN.{drop}
 use lib.Seq.{drop-drop}
 use lib.Dec.{ltb, eqb}
-use borrow.Author.Tests.{lt-ltb, eq-eqb, ne-eqb, ltb-true, eqb-true, eqb-false}
+use borrow.Author.Tests.{lt-ltb, ne-eqb, ltb-true, eqb-true, eqb-false}
 use Rattle.text.specs.Walk.{front}
 use Rattle.text.specs.Digits.{decimal}
 use Rattle.names.specs.Field.{field}

@@ -2,7 +2,7 @@
 -- Theorems `stamp-exact`, `time-text-exact`, `year-month-text-exact`, `month-day-text-exact`; `clock-exact` for a time and its UTC part. Assumes nothing.
 use Prim.Native.Nat.{ℕ, _+_, _/_, _%_}
 use native.Mathlib.Omega.{arith}
-use mathlib.Core.Bool.{Bool, true, false, cond, _&&_, false≢true}
+use mathlib.Core.Bool.{Bool, true, false, cond, false≢true}
 use mathlib.Core.Path.{_≡_, refl, sym, _∙_, ap}
 use mathlib.Core.List.{List, [], _∷_, _++_, append-assoc}
 use lib.ListN.{drop}
@@ -31,7 +31,7 @@ use Rattle.grammar.specs.declared.StampRead.{StampRead}
 use Rattle.grammar.specs.declared.TimeTextRead.{TimeTextRead}
 use Rattle.grammar.specs.declared.YearMonthRead.{YearMonthRead}
 use Rattle.grammar.specs.declared.MonthDayTextRead.{MonthDayTextRead}
-use Rattle.grammar.specs.Read.{isSep, isLead, keep, clockAt, noClock, afterClock, clockGood, clockIf, afterIf, stampFrom, stamp, stampGood, timeFrom, timeText, timeTextGood, yearMonthText, yearMonthGood, monthDayText, monthDayTextGood}
+use Rattle.grammar.specs.Read.{isSep, isLead, clockAt, afterClock, clockGood, clockIf, afterIf, stampFrom, stamp, stampGood, timeFrom, timeText, timeTextGood, yearMonthText, yearMonthGood, monthDayText, monthDayTextGood}
 use Rattle.grammar.specs.Syntax.{ClockTree, clockText, ClockOk, clockKept, PartTree, dateOnly, at, StampTree, partText, stampText, PartOk, StampOk, sepKept, partKept, stampKept, LeadTree, none, lead, TimeTextTree, leadText, timeTextText, LeadOk, TimeTextOk, leadKept, timeTextKept, YearMonthTextTree, yearMonthTextText, YearMonthTextOk, yearMonthTextKept, MonthDayTextTree, monthDayTextText, MonthDayTextOk, monthDayTextKept}
 
 -- ---- what may follow a clock: the tail of a text

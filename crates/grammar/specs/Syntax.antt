@@ -1,7 +1,7 @@
 -- THE GRAMMAR of whole texts, production by production as document 01 has them: the syntax trees, the one text of each, which are of the
 -- grammar, and what a reader keeps of them. Assumes nothing: these are definitions.
 use Prim.Native.Nat.{ℕ}
-use mathlib.Core.Bool.{Bool, true, false}
+use mathlib.Core.Bool.{true}
 use mathlib.Core.Path.{_≡_}
 use mathlib.Core.List.{List, [], _∷_, _++_}
 use Rattle.date_syntax.specs.Syntax as dates

@@ -73,7 +73,7 @@ fn clock_at(t: &[u8]) -> ClockRead
     }
 }
 
-fn no_clock() -> ClockRead
+pub fn no_clock() -> ClockRead
     ensures { λ r. ⌜ r ≡ noClock ⌝ }
 {
     ClockRead {

@@ -1,9 +1,7 @@
+-- `date_syntax::after_date` meets its contract. Assumes nothing.
 use borrow.Author.Needs.{needs}
 use Rattle.date_syntax.proofs.after_date.Statement.{statement}
 use Rattle.date_syntax.proofs.after_date.Tie as tie
-use Rattle.date_syntax.proofs.after_date.Reads as reads
-use Rattle.date_syntax.proofs.after_date.Lts as lts
-use Rattle.text.proofs.walk.rest.Reads as rest-reads
 
 enum-known-d : tie.Need-enum-known-d
 enum-known-d c = search needs

@@ -1,10 +1,8 @@
-use borrow.Author.Tests.{lt-ltb, le-ltb}
-use Rattle.text.proofs.Tests.{tests}
+-- `date_syntax::date_of` meets its contract. Assumes nothing.
 use borrow.Author.Needs.{needs}
+use borrow.Author.Tests.{lt-ltb, le-ltb}
 use Rattle.date_syntax.proofs.date_of.Statement.{statement}
 use Rattle.date_syntax.proofs.date_of.Tie as tie
-use Rattle.date_syntax.proofs.date_of.Reads as reads
-use Rattle.date_syntax.proofs.date_of.Lts as lts
 
 enum-known-y : tie.Need-enum-known-y
 enum-known-y c = search needs

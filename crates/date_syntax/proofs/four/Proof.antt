@@ -1,12 +1,8 @@
-use Rattle.date_syntax.specs.Read.{plain}
+-- `date_syntax::four` meets its contract. Assumes nothing.
 use borrow.Author.Needs.{needs}
+use Rattle.date_syntax.specs.Read.{plain}
 use Rattle.date_syntax.proofs.four.Statement.{statement}
 use Rattle.date_syntax.proofs.four.Tie as tie
-use Rattle.date_syntax.proofs.four.Reads as reads
-use Rattle.date_syntax.proofs.four.Lts as lts
-use Rattle.date_syntax.proofs.four_of.Reads as four-of-reads
-use Rattle.names.proofs.field.two.Reads as two-reads
-use Rattle.text.proofs.walk.rest.Reads as rest-reads
 
 two-requires : tie.Need-two-requires
 two-requires c κs = search needs

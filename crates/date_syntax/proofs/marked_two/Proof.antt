@@ -1,13 +1,9 @@
-use Rattle.date_syntax.specs.Read.{marked}
-use Rattle.text.proofs.Tests.{tests}
+-- `date_syntax::marked_two` meets its contract. Assumes nothing.
 use borrow.Author.Needs.{needs}
+use Rattle.text.proofs.Tests.{tests}
+use Rattle.date_syntax.specs.Read.{marked}
 use Rattle.date_syntax.proofs.marked_two.Statement.{statement}
 use Rattle.date_syntax.proofs.marked_two.Tie as tie
-use Rattle.date_syntax.proofs.marked_two.Reads as reads
-use Rattle.date_syntax.proofs.marked_two.Lts as lts
-use Rattle.names.proofs.field.two.Reads as two-reads
-use Rattle.text.proofs.walk.first.Reads as first-reads
-use Rattle.text.proofs.walk.rest.Reads as rest-reads
 
 first-requires : tie.Need-first-requires
 first-requires c κs = search needs

@@ -1,12 +1,7 @@
+-- `date_syntax::month_day_at` meets its contract. Assumes nothing.
 use borrow.Author.Needs.{needs}
 use Rattle.date_syntax.proofs.month_day_at.Statement.{statement}
 use Rattle.date_syntax.proofs.month_day_at.Tie as tie
-use Rattle.date_syntax.proofs.month_day_at.Reads as reads
-use Rattle.date_syntax.proofs.month_day_at.Lts as lts
-use Rattle.date_syntax.proofs.marked_two.Reads as marked-two-reads
-use Rattle.date_syntax.proofs.month_day_of.Reads as month-day-of-reads
-use Rattle.names.proofs.field.two.Reads as two-reads
-use Rattle.text.proofs.walk.rest.Reads as rest-reads
 
 two-requires : tie.Need-two-requires
 two-requires c κs = search needs

@@ -1,8 +1,7 @@
+-- `date_syntax::month_day_of` meets its contract. Assumes nothing.
 use Rattle.text.proofs.Tests.{tests}
 use Rattle.date_syntax.proofs.month_day_of.Statement.{statement}
 use Rattle.date_syntax.proofs.month_day_of.Tie as tie
-use Rattle.date_syntax.proofs.month_day_of.Reads as reads
-use Rattle.date_syntax.proofs.month_day_of.Lts as lts
 
 returns : tie.Need-returns
 returns c = search tests

@@ -1,14 +1,8 @@
-use Rattle.date_syntax.specs.Read.{date}
+-- `date_syntax::read_date` meets its contract. Assumes nothing.
 use borrow.Author.Needs.{needs}
+use Rattle.date_syntax.specs.Read.{date}
 use Rattle.date_syntax.proofs.read_date.Statement.{statement}
 use Rattle.date_syntax.proofs.read_date.Tie as tie
-use Rattle.date_syntax.proofs.read_date.Reads as reads
-use Rattle.date_syntax.proofs.read_date.Lts as lts
-use Rattle.date_syntax.proofs.date_of.Reads as date-of-reads
-use Rattle.date_syntax.proofs.marked_two.Reads as marked-two-reads
-use Rattle.date_syntax.proofs.read_year.Reads as read-year-reads
-use Rattle.date_syntax.proofs.year_len.Reads as year-len-reads
-use Rattle.text.proofs.walk.rest.Reads as rest-reads
 
 read-year-requires : tie.Need-read-year-requires
 read-year-requires c κs = search needs

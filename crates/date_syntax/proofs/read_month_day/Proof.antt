@@ -1,13 +1,8 @@
-use Rattle.date_syntax.specs.Read.{monthDay}
+-- `date_syntax::read_month_day` meets its contract. Assumes nothing.
 use borrow.Author.Needs.{needs}
+use Rattle.date_syntax.specs.Read.{monthDay}
 use Rattle.date_syntax.proofs.read_month_day.Statement.{statement}
 use Rattle.date_syntax.proofs.read_month_day.Tie as tie
-use Rattle.date_syntax.proofs.read_month_day.Reads as reads
-use Rattle.date_syntax.proofs.read_month_day.Lts as lts
-use Rattle.date_syntax.proofs.has_dashes.Reads as has-dashes-reads
-use Rattle.date_syntax.proofs.month_day_at.Reads as month-day-at-reads
-use Rattle.text.proofs.walk.first.Reads as first-reads
-use Rattle.text.proofs.walk.rest.Reads as rest-reads
 
 first-requires : tie.Need-first-requires
 first-requires c κs = search needs

@@ -1,14 +1,9 @@
-use Rattle.date_syntax.specs.Read.{year}
-use Rattle.text.proofs.Tests.{tests}
+-- `date_syntax::read_year` meets its contract. Assumes nothing.
 use borrow.Author.Needs.{needs}
+use Rattle.text.proofs.Tests.{tests}
+use Rattle.date_syntax.specs.Read.{year}
 use Rattle.date_syntax.proofs.read_year.Statement.{statement}
 use Rattle.date_syntax.proofs.read_year.Tie as tie
-use Rattle.date_syntax.proofs.read_year.Reads as reads
-use Rattle.date_syntax.proofs.read_year.Lts as lts
-use Rattle.date_syntax.proofs.four.Reads as four-reads
-use Rattle.date_syntax.proofs.six.Reads as six-reads
-use Rattle.text.proofs.walk.first.Reads as first-reads
-use Rattle.text.proofs.walk.rest.Reads as rest-reads
 
 first-requires : tie.Need-first-requires
 first-requires c κs = search needs

@@ -1,14 +1,8 @@
-use Rattle.date_syntax.specs.Read.{yearMonth}
+-- `date_syntax::read_year_month` meets its contract. Assumes nothing.
 use borrow.Author.Needs.{needs}
+use Rattle.date_syntax.specs.Read.{yearMonth}
 use Rattle.date_syntax.proofs.read_year_month.Statement.{statement}
 use Rattle.date_syntax.proofs.read_year_month.Tie as tie
-use Rattle.date_syntax.proofs.read_year_month.Reads as reads
-use Rattle.date_syntax.proofs.read_year_month.Lts as lts
-use Rattle.date_syntax.proofs.date_of.Reads as date-of-reads
-use Rattle.date_syntax.proofs.marked_two.Reads as marked-two-reads
-use Rattle.date_syntax.proofs.read_year.Reads as read-year-reads
-use Rattle.date_syntax.proofs.year_len.Reads as year-len-reads
-use Rattle.text.proofs.walk.rest.Reads as rest-reads
 
 read-year-requires : tie.Need-read-year-requires
 read-year-requires c κs = search needs

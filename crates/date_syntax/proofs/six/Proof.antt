@@ -1,12 +1,8 @@
-use Rattle.date_syntax.specs.Read.{signed}
+-- `date_syntax::six` meets its contract. Assumes nothing.
 use borrow.Author.Needs.{needs}
+use Rattle.date_syntax.specs.Read.{signed}
 use Rattle.date_syntax.proofs.six.Statement.{statement}
 use Rattle.date_syntax.proofs.six.Tie as tie
-use Rattle.date_syntax.proofs.six.Reads as reads
-use Rattle.date_syntax.proofs.six.Lts as lts
-use Rattle.date_syntax.proofs.six_of.Reads as six-of-reads
-use Rattle.names.proofs.field.two.Reads as two-reads
-use Rattle.text.proofs.walk.rest.Reads as rest-reads
 
 two-requires : tie.Need-two-requires
 two-requires c κs = search needs

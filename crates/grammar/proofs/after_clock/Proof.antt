@@ -1,11 +1,8 @@
-use Rattle.grammar.specs.Read.{afterClock}
+-- `grammar::after_clock` meets its contract. Assumes nothing.
 use borrow.Author.Needs.{needs}
+use Rattle.grammar.specs.Read.{afterClock}
 use Rattle.grammar.proofs.after_clock.Statement.{statement}
 use Rattle.grammar.proofs.after_clock.Tie as tie
-use Rattle.grammar.proofs.after_clock.Reads as reads
-use Rattle.grammar.proofs.after_clock.Lts as lts
-use Rattle.time_syntax.proofs.after_time.Reads as after-time-reads
-use Rattle.time_syntax.proofs.after_utc.Reads as after-utc-reads
 
 after-time-requires : tie.Need-after-time-requires
 after-time-requires c κs = search needs

@@ -1,11 +1,8 @@
-use Rattle.grammar.specs.Read.{afterIf}
+-- `grammar::after_if` meets its contract. Assumes nothing.
 use borrow.Author.Needs.{needs}
+use Rattle.grammar.specs.Read.{afterIf}
 use Rattle.grammar.proofs.after_if.Statement.{statement}
 use Rattle.grammar.proofs.after_if.Tie as tie
-use Rattle.grammar.proofs.after_if.Reads as reads
-use Rattle.grammar.proofs.after_if.Lts as lts
-use Rattle.grammar.proofs.after_clock.Reads as after-clock-reads
-use Rattle.text.proofs.walk.rest.Reads as rest-reads
 
 rest-requires : tie.Need-rest-requires
 rest-requires c κs = search needs

@@ -1,12 +1,8 @@
-use Rattle.grammar.specs.Read.{clockAt}
+-- `grammar::clock_at` meets its contract. Assumes nothing.
 use borrow.Author.Needs.{needs}
+use Rattle.grammar.specs.Read.{clockAt}
 use Rattle.grammar.proofs.clock_at.Statement.{statement}
 use Rattle.grammar.proofs.clock_at.Tie as tie
-use Rattle.grammar.proofs.clock_at.Reads as reads
-use Rattle.grammar.proofs.clock_at.Lts as lts
-use Rattle.time_syntax.proofs.after_time.Reads as after-time-reads
-use Rattle.time_syntax.proofs.read_time.Reads as read-time-reads
-use Rattle.time_syntax.proofs.read_utc.Reads as read-utc-reads
 
 read-time-requires : tie.Need-read-time-requires
 read-time-requires c κs = search needs

@@ -1,12 +1,8 @@
-use Rattle.grammar.specs.Read.{clockIf}
+-- `grammar::clock_if` meets its contract. Assumes nothing.
 use borrow.Author.Needs.{needs}
+use Rattle.grammar.specs.Read.{clockIf}
 use Rattle.grammar.proofs.clock_if.Statement.{statement}
 use Rattle.grammar.proofs.clock_if.Tie as tie
-use Rattle.grammar.proofs.clock_if.Reads as reads
-use Rattle.grammar.proofs.clock_if.Lts as lts
-use Rattle.grammar.proofs.clock_at.Reads as clock-at-reads
-use Rattle.grammar.proofs.no_clock.Reads as no-clock-reads
-use Rattle.text.proofs.walk.rest.Reads as rest-reads
 
 rest-requires : tie.Need-rest-requires
 rest-requires c κs = search needs

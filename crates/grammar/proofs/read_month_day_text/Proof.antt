@@ -1,12 +1,8 @@
-use Rattle.grammar.specs.Read.{monthDayText}
+-- `grammar::read_month_day_text` meets its contract. Assumes nothing.
 use borrow.Author.Needs.{needs}
+use Rattle.grammar.specs.Read.{monthDayText}
 use Rattle.grammar.proofs.read_month_day_text.Statement.{statement}
 use Rattle.grammar.proofs.read_month_day_text.Tie as tie
-use Rattle.grammar.proofs.read_month_day_text.Reads as reads
-use Rattle.grammar.proofs.read_month_day_text.Lts as lts
-use Rattle.date_syntax.proofs.after_month_day.Reads as after-month-day-reads
-use Rattle.date_syntax.proofs.read_month_day.Reads as read-month-day-reads
-use Rattle.tail_syntax.proofs.read_tail.Reads as read-tail-reads
 
 read-month-day-requires : tie.Need-read-month-day-requires
 read-month-day-requires c κs = search needs

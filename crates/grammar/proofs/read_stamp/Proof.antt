@@ -1,12 +1,8 @@
-use Rattle.grammar.specs.Read.{stamp}
+-- `grammar::read_stamp` meets its contract. Assumes nothing.
 use borrow.Author.Needs.{needs}
+use Rattle.grammar.specs.Read.{stamp}
 use Rattle.grammar.proofs.read_stamp.Statement.{statement}
 use Rattle.grammar.proofs.read_stamp.Tie as tie
-use Rattle.grammar.proofs.read_stamp.Reads as reads
-use Rattle.grammar.proofs.read_stamp.Lts as lts
-use Rattle.date_syntax.proofs.after_date.Reads as after-date-reads
-use Rattle.date_syntax.proofs.read_date.Reads as read-date-reads
-use Rattle.grammar.proofs.stamp_from.Reads as stamp-from-reads
 
 read-date-requires : tie.Need-read-date-requires
 read-date-requires c κs = search needs

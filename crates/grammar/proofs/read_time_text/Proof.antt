@@ -1,13 +1,8 @@
-use Rattle.grammar.specs.Read.{timeText}
+-- `grammar::read_time_text` meets its contract. Assumes nothing.
 use borrow.Author.Needs.{needs}
+use Rattle.grammar.specs.Read.{timeText}
 use Rattle.grammar.proofs.read_time_text.Statement.{statement}
 use Rattle.grammar.proofs.read_time_text.Tie as tie
-use Rattle.grammar.proofs.read_time_text.Reads as reads
-use Rattle.grammar.proofs.read_time_text.Lts as lts
-use Rattle.grammar.proofs.is_lead.Reads as is-lead-reads
-use Rattle.grammar.proofs.time_from.Reads as time-from-reads
-use Rattle.text.proofs.walk.first.Reads as first-reads
-use Rattle.text.proofs.walk.rest.Reads as rest-reads
 
 first-requires : tie.Need-first-requires
 first-requires c κs = search needs

@@ -1,12 +1,8 @@
-use Rattle.grammar.specs.Read.{yearMonthText}
+-- `grammar::read_year_month_text` meets its contract. Assumes nothing.
 use borrow.Author.Needs.{needs}
+use Rattle.grammar.specs.Read.{yearMonthText}
 use Rattle.grammar.proofs.read_year_month_text.Statement.{statement}
 use Rattle.grammar.proofs.read_year_month_text.Tie as tie
-use Rattle.grammar.proofs.read_year_month_text.Reads as reads
-use Rattle.grammar.proofs.read_year_month_text.Lts as lts
-use Rattle.date_syntax.proofs.after_year_month.Reads as after-year-month-reads
-use Rattle.date_syntax.proofs.read_year_month.Reads as read-year-month-reads
-use Rattle.tail_syntax.proofs.read_tail.Reads as read-tail-reads
 
 read-year-month-requires : tie.Need-read-year-month-requires
 read-year-month-requires c κs = search needs

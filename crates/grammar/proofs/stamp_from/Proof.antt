@@ -1,15 +1,8 @@
-use Rattle.grammar.specs.Read.{stampFrom}
+-- `grammar::stamp_from` meets its contract. Assumes nothing.
 use borrow.Author.Needs.{needs}
+use Rattle.grammar.specs.Read.{stampFrom}
 use Rattle.grammar.proofs.stamp_from.Statement.{statement}
 use Rattle.grammar.proofs.stamp_from.Tie as tie
-use Rattle.grammar.proofs.stamp_from.Reads as reads
-use Rattle.grammar.proofs.stamp_from.Lts as lts
-use Rattle.grammar.proofs.after_if.Reads as after-if-reads
-use Rattle.grammar.proofs.clock_if.Reads as clock-if-reads
-use Rattle.grammar.proofs.is_sep.Reads as is-sep-reads
-use Rattle.grammar.proofs.keep_if.Reads as keep-if-reads
-use Rattle.tail_syntax.proofs.read_tail.Reads as read-tail-reads
-use Rattle.text.proofs.walk.first.Reads as first-reads
 
 first-requires : tie.Need-first-requires
 first-requires c κs = search needs

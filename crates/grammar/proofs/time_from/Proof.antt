@@ -1,12 +1,8 @@
-use Rattle.grammar.specs.Read.{timeFrom}
+-- `grammar::time_from` meets its contract. Assumes nothing.
 use borrow.Author.Needs.{needs}
+use Rattle.grammar.specs.Read.{timeFrom}
 use Rattle.grammar.proofs.time_from.Statement.{statement}
 use Rattle.grammar.proofs.time_from.Tie as tie
-use Rattle.grammar.proofs.time_from.Reads as reads
-use Rattle.grammar.proofs.time_from.Lts as lts
-use Rattle.grammar.proofs.after_clock.Reads as after-clock-reads
-use Rattle.grammar.proofs.clock_at.Reads as clock-at-reads
-use Rattle.tail_syntax.proofs.read_tail.Reads as read-tail-reads
 
 clock-at-requires : tie.Need-clock-at-requires
 clock-at-requires c κs = search needs

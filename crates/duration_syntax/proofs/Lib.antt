@@ -1,0 +1,4 @@
+-- What several proofs, and the crates above, cite.
+pub mod RunLaws
+pub mod PartLaws
+pub mod Exact
