@@ -11,7 +11,7 @@ pub use meaning::DurationShown;
 pub fn read_duration(t: &[u8]) -> DurationReading
     ensures { λ r. ⌜ r ≡ readDuration (now (t .entry)) ⌝ }
 {
-    if 1024 < t.len() {
+    if text::refusal::LONGEST < t.len() {
         return DurationReading::Refused(text::refusal::TOO_LONG);
     }
     meaning::answer_of(duration_syntax::raw::duration(t))

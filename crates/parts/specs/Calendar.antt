@@ -7,15 +7,12 @@ use Rattle.text.specs.Walk.{sameBytes}
 use Rattle.record.specs.declared.stamp.DisplayCalendar.{DisplayCalendar}
 use Rattle.record.specs.declared.stamp.DisplayCalendar.the-variants as show
 use Rattle.record.specs.declared.stamp.Calendar.{Calendar}
-use Rattle.names.specs.Name.{calendarNameOk}
+use Rattle.names.specs.Name.{calendarNameOk, iso8601}
 use Rattle.parts.specs.declared.annotation.Mark.{Mark}
 use Rattle.parts.specs.declared.annotation.Mark.the-variants.{Hidden, Plain, Critical}
 use Rattle.parts.specs.Annotation.{nameIn, annotation}
 
--- `iso8601`, and the key `u-ca=`
-abbrev pub iso8601 : List ℕ
-iso8601 = 105 ∷ 115 ∷ 111 ∷ 56 ∷ 54 ∷ 48 ∷ 49 ∷ []
-
+-- the key `u-ca=`
 abbrev pub calendarKey : List ℕ
 calendarKey = 117 ∷ 45 ∷ 99 ∷ 97 ∷ 61 ∷ []
 

@@ -13,9 +13,10 @@ use Rattle.date_syntax.specs.Read.{marked as dash, plain, signed, year, date, y
 use Rattle.time_syntax.specs.Read.{fractionOf, fractionAt, secsAt, timeOf, time, past, utc}
 use Rattle.tail_syntax.specs.Read.{marked, inside, ends, zoneOf, zone, noteOf, note, walkStep, notes, tail}
 use Rattle.grammar.specs.Read.{clockAt, afterClock, clockIf, afterIf, stampFrom, stamp, stampGood, timeFrom, timeText, timeTextGood, yearMonthText, yearMonthGood, monthDayText, monthDayTextGood}
-use Rattle.reader.specs.Meaning.{shown}
-use Rattle.reader.specs.Verdict.{verdict, longFraction, otherCalendar, stampFaults, timeFaults, yearMonthFaults, monthDayFaults}
-use Rattle.reader.specs.Goals.{readStamp, readTime, readYearMonth, readMonthDay, readPlain, readGoal}
+use Rattle.meaning.specs.Shown.{shown}
+use Rattle.meaning.specs.Verdict.{verdict, longFraction, otherCalendar, stampFaults, timeFaults, yearMonthFaults, monthDayFaults}
+use Rattle.reader.specs.Kinds.{stampAnswer, readStamp, timeAnswer, readTime, yearMonthAnswer, readYearMonth, monthDayAnswer, readMonthDay}
+use Rattle.reader.specs.Goals.{readPlain, readGoal}
 
 -- 0 if the text is accepted for the goal, else its refusal's number
 refused : Goal → String → ℕ
@@ -36,7 +37,7 @@ stamps :
     × (refused goal.Zoned "2024-05-06T10:15Z" ≡ 13)
     × (refused goal.Instant "2024-05-06T10:15" ≡ 13)
     × (refused goal.Instant "2024-05-06T10:15-00:00" ≡ 0)
-unfolding refused bytes digit pairOf field wordStep joinStep dotStep keyStep runStep partStep valueStep zoneStep step wholeOf runOf keyRun calendarRun numericOf numericRun zoneRun leapRule isLeap monthLengths daysInMonth validDate dash plain signed year date fractionOf fractionAt secsAt timeOf time past utc marked inside ends zoneOf zone noteOf note walkStep notes tail clockAt afterClock clockIf afterIf stampFrom stamp stampGood shown verdict longFraction stampFaults readStamp readPlain
+unfolding refused bytes digit pairOf field wordStep joinStep dotStep keyStep runStep partStep valueStep zoneStep step wholeOf runOf keyRun calendarRun numericOf numericRun zoneRun leapRule isLeap monthLengths daysInMonth validDate dash plain signed year date fractionOf fractionAt secsAt timeOf time past utc marked inside ends zoneOf zone noteOf note walkStep notes tail clockAt afterClock clockIf afterIf stampFrom stamp stampGood shown verdict longFraction stampFaults stampAnswer readStamp readPlain
 stamps = (refl, refl, refl, refl, refl, refl, refl, refl, refl, refl, refl, refl, refl, refl)
 
 others :
@@ -50,5 +51,5 @@ others :
     × (refused goal.Time "2024-05-06T10:15Z" ≡ 6)
     × (refused goal.Time "2024-05-06" ≡ 13)
     × (refused goal.Time "T10:15:60.5" ≡ 0)
-unfolding refused bytes digit pairOf field wordStep joinStep dotStep keyStep runStep partStep valueStep zoneStep step wholeOf runOf keyRun calendarRun numericOf numericRun zoneRun leapRule isLeap monthLengths daysInMonth validDate dash plain signed year date yearMonth dashes monthDay fractionOf fractionAt secsAt timeOf time past utc marked inside ends zoneOf zone noteOf note walkStep notes tail clockAt afterClock clockIf afterIf stampFrom stamp stampGood timeFrom timeText timeTextGood yearMonthText yearMonthGood monthDayText monthDayTextGood shown verdict longFraction otherCalendar stampFaults timeFaults yearMonthFaults monthDayFaults readStamp readTime readYearMonth readMonthDay readPlain
+unfolding refused bytes digit pairOf field wordStep joinStep dotStep keyStep runStep partStep valueStep zoneStep step wholeOf runOf keyRun calendarRun numericOf numericRun zoneRun leapRule isLeap monthLengths daysInMonth validDate dash plain signed year date yearMonth dashes monthDay fractionOf fractionAt secsAt timeOf time past utc marked inside ends zoneOf zone noteOf note walkStep notes tail clockAt afterClock clockIf afterIf stampFrom stamp stampGood timeFrom timeText timeTextGood yearMonthText yearMonthGood monthDayText monthDayTextGood shown verdict longFraction otherCalendar stampFaults timeFaults yearMonthFaults monthDayFaults stampAnswer readStamp timeAnswer readTime yearMonthAnswer readYearMonth monthDayAnswer readMonthDay readPlain
 others = (refl, refl, refl, refl, refl, refl, refl, refl, refl, refl)

@@ -1,4 +1,3 @@
 -- What several proofs, and the crates above, cite.
-pub mod Years
-pub mod Names
+pub mod Meaning
 mod Examples

@@ -1,9 +1,7 @@
--- The goals 0 to 6: what a text is read as for each. Assumes nothing: these are definitions.
+-- The goals 0 to 6: what a text is read as for each, and the finder of calendars. Assumes nothing: these are definitions.
 use Prim.Native.Nat.{ℕ}
 use mathlib.Core.Bool.{Bool, true, false, cond, _&&_, not}
 use mathlib.Core.List.{List}
-use lib.Dec.{eqb}
-use lib.ListN.{length}
 use Rattle.record.specs.declared.shown.Reading.{Reading}
 use Rattle.record.specs.declared.shown.Reading.the-variants as reading
 use Rattle.record.specs.declared.shown.Shown.{Shown}
@@ -15,27 +13,10 @@ use Rattle.record.specs.declared.shown.NamePart.{NamePart}
 use Rattle.record.specs.declared.shown.NamePart.the-variants as name
 use Rattle.record.specs.declared.goal.Goal.{Goal}
 use Rattle.record.specs.declared.goal.Goal.the-variants as goal
-use Rattle.record.specs.declared.stamp.DatePart.the-variants as part
-use Rattle.grammar.specs.Read.{stamp, timeText, yearMonthText, monthDayText, noClock}
-use Rattle.reader.specs.Meaning.{shown, shownDate, shownMonthDay}
-use Rattle.reader.specs.Verdict.{verdict, stampFaults, timeFaults, yearMonthFaults, monthDayFaults}
-
--- a reading, or the refusal of that number
-abbrev pub answer : ℕ → Shown → Reading
-answer k s = cond (eqb k 0) (reading.Accepted s) (reading.Refused k)
-
--- ---- each kind of text by its own grammar, refusals 5 to 11
-unfoldable pub readStamp : List ℕ → Reading
-readStamp l = let w = stamp l in answer (verdict (length l) (stampFaults w)) (shown (length l) (shownDate (w .date)) (w .clock) (w .tail))
-
-unfoldable pub readTime : List ℕ → Reading
-readTime l = let w = timeText l in answer (verdict (length l) (timeFaults w)) (shown (length l) part.Absent (w .clock) (w .tail))
-
-unfoldable pub readYearMonth : List ℕ → Reading
-readYearMonth l = let w = yearMonthText l in answer (verdict (length l) (yearMonthFaults w l)) (shown (length l) (shownDate (w .date)) noClock (w .tail))
-
-unfoldable pub readMonthDay : List ℕ → Reading
-readMonthDay l = let w = monthDayText l in answer (verdict (length l) (monthDayFaults w l)) (shown (length l) (shownMonthDay (w .day)) noClock (w .tail))
+use Rattle.record.specs.declared.goal.GoalChoice.{GoalChoice}
+use Rattle.record.specs.declared.goal.GoalChoice.the-variants as choice
+use Rattle.record.specs.Goals.{goalOf}
+use Rattle.reader.specs.Kinds.{readStamp, readTime, readYearMonth, readMonthDay}
 
 -- ---- what a goal forbids and needs
 abbrev pub isZulu : ShownOffset → Bool
@@ -80,19 +61,19 @@ abbrev pub needsTime : Reading → Reading
 needsTime (reading.Accepted s) = unless (not (hasTime (s .time))) 13 s
 needsTime (reading.Refused k) = reading.Refused k
 
--- a goal's own text; where it is refused for any reason, plain; where that is refused too, the first number
-abbrev pub orPlain : ℕ → Reading → Reading
-orPlain k (reading.Accepted s) = reading.Accepted s
-orPlain k (reading.Refused j) = reading.Refused k
+-- a first reading; where it is refused for any reason, a second; where that is refused too, the first number
+abbrev pub orElse : ℕ → Reading → Reading
+orElse k (reading.Accepted s) = reading.Accepted s
+orElse k (reading.Refused j) = reading.Refused k
 
 abbrev pub fallback : Reading → Reading → Reading
-fallback (reading.Accepted s) plain = reading.Accepted s
-fallback (reading.Refused k) plain = orPlain k plain
+fallback (reading.Accepted s) second = reading.Accepted s
+fallback (reading.Refused k) second = orElse k second
 
 unfoldable pub readPlain : List ℕ → Reading
 readPlain l = noZulu (readStamp l)
 
--- the seven goals
+-- ---- the seven goals; the last three try their own text and then plain
 abbrev pub readGoal : Goal → List ℕ → Reading
 readGoal goal.Stamp l = readStamp l
 readGoal goal.Plain l = readPlain l
@@ -101,3 +82,15 @@ readGoal goal.Instant l = needsInstant (readStamp l)
 readGoal goal.Time l = needsTime (noZulu (fallback (readTime l) (readPlain l)))
 readGoal goal.YearMonth l = fallback (readYearMonth l) (readPlain l)
 readGoal goal.MonthDay l = fallback (readMonthDay l) (readPlain l)
+
+-- ---- by the number of a goal: 15, before all others, where there is no such goal
+abbrev pub readChoice : GoalChoice → List ℕ → Reading
+readChoice (choice.Is g) l = readGoal g l
+readChoice choice.Unknown l = reading.Refused 15
+
+unfoldable pub readNumber : ℕ → List ℕ → Reading
+readNumber n l = readChoice (goalOf n) l
+
+-- ---- the finder of calendars: stamp, time (Z allowed), year-month, month-day; the stamp's number if none accepts
+unfoldable pub find : List ℕ → Reading
+find l = fallback (readStamp l) (fallback (readTime l) (fallback (readYearMonth l) (readMonthDay l)))

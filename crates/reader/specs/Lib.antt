@@ -1,3 +1,5 @@
-pub mod Meaning
-pub mod Verdict
+-- The definitions that the contracts of this crate, and the crates above, cite.
+pub mod Kinds
 pub mod Goals
+pub mod Parts
+pub mod Meaning

@@ -1,80 +1,17 @@
-// The goals: each kind of text by its own grammar, and what a goal forbids, needs and falls back to.
+// The goals: what each forbids, needs and falls back to; and the finder of calendars.
+use crate::kinds::read_month_day;
+use crate::kinds::read_stamp;
+use crate::kinds::read_time;
+use crate::kinds::read_year_month;
 use record::ClockPart;
-use record::DatePart;
 use record::Goal;
+use record::GoalChoice;
 use record::NamePart;
 use record::Reading;
 use record::Shown;
 use record::ShownOffset;
 ghost use mathlib.Core.Path.{_≡_};
-ghost use Rattle.reader.specs.Goals.{answer, readStamp, readTime, readYearMonth, readMonthDay, isZulu, hasOffset, hasTime, hasName, unless, noZulu, needsZone, needsInstant, needsTime, orPlain, fallback, readPlain, readGoal};
-
-fn answer_of(k: u8, s: Shown) -> Reading
-    ensures { λ r. ⌜ r ≡ answer k s ⌝ }
-{
-    if k == 0 {
-        return Reading::Accepted(s);
-    }
-    Reading::Refused(k)
-}
-
-// A stamp text, refusals 5 to 11.
-pub fn read_stamp(t: &[u8]) -> Reading
-    ensures { λ r. ⌜ r ≡ readStamp (now (t .entry)) ⌝ }
-{
-    let w = grammar::read_stamp(t);
-    let date = w.date;
-    let clock = w.clock;
-    let tail = w.tail;
-    let faults = super::verdict::stamp_faults(w);
-    let k = super::verdict::verdict_of(t.len(), faults);
-    let d = super::meaning::shown_date(date);
-    let s = super::meaning::shown_of(t.len(), d, clock, tail);
-    answer_of(k, s)
-}
-
-// A time text, refusals 5 to 10.
-pub fn read_time(t: &[u8]) -> Reading
-    ensures { λ r. ⌜ r ≡ readTime (now (t .entry)) ⌝ }
-{
-    let w = grammar::read_time_text(t);
-    let clock = w.clock;
-    let tail = w.tail;
-    let faults = super::verdict::time_faults(w);
-    let k = super::verdict::verdict_of(t.len(), faults);
-    let s = super::meaning::shown_of(t.len(), DatePart::Absent, clock, tail);
-    answer_of(k, s)
-}
-
-// A year-month text, refusals 5 to 11.
-pub fn read_year_month(t: &[u8]) -> Reading
-    ensures { λ r. ⌜ r ≡ readYearMonth (now (t .entry)) ⌝ }
-{
-    let w = grammar::read_year_month_text(t);
-    let date = w.date;
-    let tail = w.tail;
-    let faults = super::verdict::year_month_faults(w, t);
-    let k = super::verdict::verdict_of(t.len(), faults);
-    let d = super::meaning::shown_date(date);
-    let clock = grammar::no_clock();
-    let s = super::meaning::shown_of(t.len(), d, clock, tail);
-    answer_of(k, s)
-}
-
-// A month-day text, refusals 5 to 11.
-pub fn read_month_day(t: &[u8]) -> Reading
-    ensures { λ r. ⌜ r ≡ readMonthDay (now (t .entry)) ⌝ }
-{
-    let w = grammar::read_month_day_text(t);
-    let date = w.day;
-    let tail = w.tail;
-    let faults = super::verdict::month_day_faults(w, t);
-    let k = super::verdict::verdict_of(t.len(), faults);
-    let d = super::meaning::shown_month_day(date);
-    let clock = grammar::no_clock();
-    let s = super::meaning::shown_of(t.len(), d, clock, tail);
-    answer_of(k, s)
-}
+ghost use Rattle.reader.specs.Goals.{isZulu, hasOffset, hasTime, hasName, unless, noZulu, needsZone, needsInstant, needsTime, orElse, fallback, readPlain, readGoal, readChoice, readNumber, find};
 
 fn is_zulu(o: ShownOffset) -> bool
     ensures { λ r. ⌜ r ≡ isZulu o ⌝ }
@@ -181,22 +118,12 @@ fn needs_time(r: Reading) -> Reading
     }
 }
 
-fn or_plain(k: u8, plain: Reading) -> Reading
-    ensures { λ a. ⌜ a ≡ orPlain k plain ⌝ }
+fn or_else(k: u8, second: Reading) -> Reading
+    ensures { λ a. ⌜ a ≡ orElse k second ⌝ }
 {
-    match plain {
+    match second {
         Reading::Accepted(s) => Reading::Accepted(s),
         Reading::Refused(_) => Reading::Refused(k),
-    }
-}
-
-// A goal's own text; where it is refused, plain; where that is refused too, the first number.
-fn fall_back(own: Reading, plain: Reading) -> Reading
-    ensures { λ a. ⌜ a ≡ fallback own plain ⌝ }
-{
-    match own {
-        Reading::Accepted(s) => Reading::Accepted(s),
-        Reading::Refused(k) => or_plain(k, plain),
     }
 }
 
@@ -204,6 +131,16 @@ pub fn read_plain(t: &[u8]) -> Reading
     ensures { λ r. ⌜ r ≡ readPlain (now (t .entry)) ⌝ }
 {
     no_zulu(read_stamp(t))
+}
+
+// A goal's own reading; where it is refused, plain; where that is refused too, the first number.
+fn or_plain(own: Reading, t: &[u8]) -> Reading
+    ensures { λ a. ⌜ a ≡ fallback own (readPlain (now (t .entry))) ⌝ }
+{
+    match own {
+        Reading::Accepted(s) => Reading::Accepted(s),
+        Reading::Refused(k) => or_else(k, read_plain(t)),
+    }
 }
 
 // What a text is read as for a goal.
@@ -215,8 +152,43 @@ pub fn read(goal: Goal, t: &[u8]) -> Reading
         Goal::Plain => read_plain(t),
         Goal::Zoned => needs_zone(read_stamp(t)),
         Goal::Instant => needs_instant(read_stamp(t)),
-        Goal::Time => needs_time(no_zulu(fall_back(read_time(t), read_plain(t)))),
-        Goal::YearMonth => fall_back(read_year_month(t), read_plain(t)),
-        Goal::MonthDay => fall_back(read_month_day(t), read_plain(t)),
+        Goal::Time => needs_time(no_zulu(or_plain(read_time(t), t))),
+        Goal::YearMonth => or_plain(read_year_month(t), t),
+        Goal::MonthDay => or_plain(read_month_day(t), t),
     }
+}
+
+fn read_choice(choice: GoalChoice, t: &[u8]) -> Reading
+    ensures { λ r. ⌜ r ≡ readChoice choice (now (t .entry)) ⌝ }
+{
+    match choice {
+        GoalChoice::Is(g) => read(g, t),
+        GoalChoice::Unknown => Reading::Refused(text::refusal::NO_SUCH_GOAL),
+    }
+}
+
+// By the number of a goal; 15, before all others, where there is no such goal.
+pub fn read_number(goal: u32, t: &[u8]) -> Reading
+    ensures { λ r. ⌜ r ≡ readNumber goal (now (t .entry)) ⌝ }
+{
+    read_choice(record::goal_of(goal), t)
+}
+
+// A reading; where it is refused, another; where that is refused too, the first number.
+fn fall_back(own: Reading, second: Reading) -> Reading
+    ensures { λ a. ⌜ a ≡ fallback own second ⌝ }
+{
+    match own {
+        Reading::Accepted(s) => Reading::Accepted(s),
+        Reading::Refused(k) => or_else(k, second),
+    }
+}
+
+// The finder of calendars: the first of a stamp, a time, a year-month and a month-day text that is accepted, `Z` allowed; else the stamp's number.
+pub fn find_reading(t: &[u8]) -> Reading
+    ensures { λ r. ⌜ r ≡ find (now (t .entry)) ⌝ }
+{
+    let partial = fall_back(read_year_month(t), read_month_day(t));
+    let undated = fall_back(read_time(t), partial);
+    fall_back(read_stamp(t), undated)
 }

@@ -1,14 +1,4 @@
-// What a text means: the refusals in document 01's order, what is read, and the seven goals.
+// What a text is read as: each kind of text by its own grammar, the seven goals, the finder of calendars, and the names as parts of the text.
 pub mod goals;
-pub mod meaning;
-pub mod verdict;
-
-// What can be wrong with a text, each by itself; the order of the refusals is `verdict`'s.
-pub struct Faults {
-    pub grammar: bool,
-    pub unknown: bool,
-    pub fraction: bool,
-    pub calendar: bool,
-    pub clash: bool,
-    pub day: bool,
-}
+pub mod kinds;
+pub mod parts;

@@ -1,5 +1,6 @@
 -- What several proofs, and the crates above, cite.
 pub mod Tests
+pub mod WalkLaws
 pub mod PutLaws
 pub mod DigitLaws
 pub mod NumberLaws

@@ -8,8 +8,10 @@ pub const BAD_FIELD: u8 = 2;
 pub const BAD_NAME: u8 = 3;
 // Parts that do not go together, or none to write.
 pub const BAD_PARTS: u8 = 4;
-// A text over 1,024 bytes.
+// A text over 1,024 bytes, and the most that a text may have.
 pub const TOO_LONG: u8 = 5;
+
+pub const LONGEST: usize = 1024;
 // A text not of the grammar.
 pub const BAD_TEXT: u8 = 6;
 // A critical annotation other than `u-ca`.

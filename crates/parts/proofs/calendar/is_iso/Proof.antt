@@ -4,7 +4,8 @@ use mathlib.Core.List.{List}
 use Prim.Native.Nat.{ℕ}
 use borrow.Author.Needs.{needs}
 use Rattle.text.specs.Walk.{sameBytes}
-use Rattle.parts.specs.Calendar.{iso8601, isIso}
+use Rattle.names.specs.Name.{iso8601}
+use Rattle.parts.specs.Calendar.{isIso}
 use Rattle.parts.proofs.calendar.is_iso.Statement.{statement}
 use Rattle.parts.proofs.calendar.is_iso.Tie as tie
 

@@ -39,11 +39,8 @@ enum-told-5 c = search needs
 read-time-requires : tie.Need-read-time-requires
 read-time-requires c κs = search needs
 
-read-plain-requires-2 : tie.Need-read-plain-requires-2
-read-plain-requires-2 c κs = search needs
-
-fall-back-requires : tie.Need-fall-back-requires
-fall-back-requires c κs = search needs
+or-plain-requires : tie.Need-or-plain-requires
+or-plain-requires c κs = search needs
 
 no-zulu-requires : tie.Need-no-zulu-requires
 no-zulu-requires c κs = search needs
@@ -57,11 +54,8 @@ enum-told-6 c = search needs
 read-year-month-requires : tie.Need-read-year-month-requires
 read-year-month-requires c κs = search needs
 
-read-plain-requires-3 : tie.Need-read-plain-requires-3
-read-plain-requires-3 c κs = search needs
-
-fall-back-requires-2 : tie.Need-fall-back-requires-2
-fall-back-requires-2 c κs = search needs
+or-plain-requires-2 : tie.Need-or-plain-requires-2
+or-plain-requires-2 c κs = search needs
 
 enum-told-7 : tie.Need-enum-told-7
 enum-told-7 c = search needs
@@ -69,32 +63,36 @@ enum-told-7 c = search needs
 read-month-day-requires : tie.Need-read-month-day-requires
 read-month-day-requires c κs = search needs
 
-read-plain-requires-4 : tie.Need-read-plain-requires-4
-read-plain-requires-4 c κs = search needs
-
-fall-back-requires-3 : tie.Need-fall-back-requires-3
-fall-back-requires-3 c κs = search needs
+or-plain-requires-3 : tie.Need-or-plain-requires-3
+or-plain-requires-3 c κs = search needs
 
 returns : tie.Need-returns
-returns c = simp (c .before .enum-told .given .1, c .read-stamp .ensures)
+returns c = cc
 
 returns-2 : tie.Need-returns-2
-returns-2 c = simp (c .before .enum-told2 .given .1, c .read-plain .ensures)
+returns-2 c = cc
 
 returns-3 : tie.Need-returns-3
-returns-3 c = simp (c .before .before .enum-told3 .given .1, c .needs-zone .ensures, c .before .read-stamp2 .ensures)
+returns-3 c = cc
 
 returns-4 : tie.Need-returns-4
-returns-4 c = simp (c .before .before .enum-told4 .given .1, c .needs-instant .ensures, c .before .read-stamp3 .ensures)
+returns-4 c = cc
 
 returns-5 : tie.Need-returns-5
-returns-5 c = simp (c .before .before .before .before .before .enum-told5 .given .1, c .needs-time .ensures, c .before .no-zulu .ensures, c .before .before .fall-back .ensures, c .before .before .before .read-plain2 .ensures, c .before .before .before .before .read-time .ensures)
+returns-5 c =
+    simp (
+      c .before .before .before .before .enum-told5 .given .1,
+      c .needs-time .ensures,
+      c .before .no-zulu .ensures,
+      c .before .before .or-plain .ensures,
+      c .before .before .before .read-time .ensures,
+    )
 
 returns-6 : tie.Need-returns-6
-returns-6 c = simp (c .before .before .before .enum-told6 .given .1, c .fall-back2 .ensures, c .before .read-plain3 .ensures, c .before .before .read-year-month .ensures)
+returns-6 c = simp (c .before .before .enum-told6 .given .1, c .or-plain2 .ensures, c .before .read-year-month .ensures)
 
 returns-7 : tie.Need-returns-7
-returns-7 c = simp (c .before .before .before .enum-told7 .given .1, c .fall-back3 .ensures, c .before .read-plain4 .ensures, c .before .before .read-month-day .ensures)
+returns-7 c = simp (c .before .before .enum-told7 .given .1, c .or-plain3 .ensures, c .before .read-month-day .ensures)
 
 pub read-spec : {M : Type 1} → statement M
 read-spec =
@@ -112,18 +110,15 @@ read-spec =
     needs-instant-requires
     enum-told-5
     read-time-requires
-    read-plain-requires-2
-    fall-back-requires
+    or-plain-requires
     no-zulu-requires
     needs-time-requires
     enum-told-6
     read-year-month-requires
-    read-plain-requires-3
-    fall-back-requires-2
+    or-plain-requires-2
     enum-told-7
     read-month-day-requires
-    read-plain-requires-4
-    fall-back-requires-3
+    or-plain-requires-3
     returns
     returns-2
     returns-3

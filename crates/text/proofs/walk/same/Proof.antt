@@ -1,8 +1,8 @@
 -- `text::walk::same` meets its contract. The loop keeps: what is left of the two texts is the same exactly if they are.
 -- Assumes nothing.
-use mathlib.Core.Bool.{Bool, true, false, _&&_}
-use mathlib.Core.List.{List, [], _∷_}
-use mathlib.Core.Path.{_≡_, refl, ap, _∙_}
+use mathlib.Core.Bool.{false, _&&_}
+use mathlib.Core.List.{List}
+use mathlib.Core.Path.{_≡_, refl, _∙_}
 use Prim.Native.Nat.{ℕ, suc, _+_, _-_, _<_, _≤_}
 use native.Mathlib.Numerals.{add-one}
 use native.Mathlib.Omega.{arith}
@@ -12,18 +12,9 @@ use lib.Dec.{eqb}
 use lib.ListN.{length, drop, getD, drop-of-length-le}
 use lib.Seq.{drop-cons}
 use Rattle.text.specs.Walk.{sameBytes}
+use Rattle.text.proofs.WalkLaws.{other-length}
 use Rattle.text.proofs.walk.same.Statement.{statement}
 use Rattle.text.proofs.walk.same.Tie as tie
-
-differ : (l m : List ℕ) → (length l ≡ length m → ⊥) → false ≡ sameBytes l m
-differ [] [] h = absurd (h refl)
-differ [] (b ∷ m) h = refl
-differ (a ∷ l) [] h = refl
-differ (a ∷ l) (b ∷ m) h = go (eqb a b) (differ l m (λ e. h (ap suc e)))
-  where
-    go : (t : Bool) → false ≡ sameBytes l m → false ≡ (t && sameBytes l m)
-    go true e = e
-    go false e = refl
 
 -- one byte of both at place i
 module _ (t u : List ℕ) (i : ℕ) (h : i < length t) (k : i < length u) where
@@ -43,7 +34,7 @@ abbrev μ-loop : tie.MeasureT-loop
 μ-loop t u i₀ i = length t - i
 
 returns : tie.Need-returns Inv-loop μ-loop
-returns c = differ (now (c .before .args .t)) (now (c .before .args .u)) (c .if1 .taken)
+returns c = other-length (now (c .before .args .t)) (now (c .before .args .u)) (c .if1 .taken)
 
 loop-holds : tie.Need-loop-holds Inv-loop μ-loop
 loop-holds c = (omega arith, c .if1 .left, refl)
