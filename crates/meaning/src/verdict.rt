@@ -218,7 +218,7 @@ fn other_calendar(tail: TailRead, t: &[u8]) -> bool
 }
 
 // The day is not in its month.
-fn late_day(d: DateRead) -> bool
+pub fn late_day(d: DateRead) -> bool
     requires { ⌜ Small d ⌝ }
     ensures { λ r. ⌜ r ≡ lateDay d ⌝ }
 {
