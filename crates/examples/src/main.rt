@@ -1,37 +1,6 @@
-// Worked examples over the library, run: one line for each with what was expected and got, and a last line that counts them. Each
-// module has the examples of one part of the library; to add an example, add its line there and to the file stdout.
-mod dates;
-mod digits;
-mod expect;
-mod naming;
-mod times;
-mod writing;
-
-use expect::Tally;
-use expect::print;
-use expect::print_number;
-
-fn summary(tally: Tally) {
-    print_number(tally.run);
-    print(b" examples, ");
-    print_number(tally.differ);
-    print(b" differ\n");
-}
+// The worked examples of document 01, run and compared: the list of standard input has a title before each line, and what came of it is
+// printed beside the title.
 
 fn main() {
-    let mut t = Tally::new();
-    t = digits::run(t);
-    t = dates::leap_days(t);
-    t = dates::limits(t);
-    t = dates::months(t);
-    t = times::run(t);
-    t = naming::run(t);
-    t = writing::dates(t);
-    t = writing::times(t);
-    t = writing::offsets(t);
-    t = writing::annotations(t);
-    t = writing::partials(t);
-    t = writing::stamps(t);
-    t = writing::durations(t);
-    summary(t);
+    test_judge::list::judge_list(true)
 }

@@ -34,14 +34,14 @@ use Rattle.record.specs.declared.stamp.CalendarPart.{CalendarPart}
 use Rattle.record.specs.declared.stamp.CalendarPart.the-variants as calendar
 use Rattle.record.specs.declared.stamp.Stamp.{Stamp}
 use Rattle.names.proofs.Exact.{zone-name-exact, calendar-name-exact}
-use Rattle.parts.specs.declared.annotation.Mark.{Mark}
-use Rattle.parts.specs.declared.annotation.Mark.the-variants.{Hidden, Plain, Critical}
-use Rattle.parts.specs.Annotation.{nameIn}
-use Rattle.parts.specs.Date.{dateOk}
-use Rattle.parts.specs.Time.{timeOk}
-use Rattle.parts.specs.Offset.{utcOk, offsetOk}
-use Rattle.parts.specs.Zone.{zoneMark, zoneOk}
-use Rattle.parts.specs.Calendar.{isIso, calendarMark, calendarOk}
+use Rattle.tail_writer.specs.declared.annotation.Mark.{Mark}
+use Rattle.tail_writer.specs.declared.annotation.Mark.the-variants.{Hidden, Plain, Critical}
+use Rattle.tail_writer.specs.Annotation.{nameIn}
+use Rattle.date_writer.specs.Date.{dateOk}
+use Rattle.time_writer.specs.Time.{timeOk}
+use Rattle.time_writer.specs.Offset.{utcOk, offsetOk}
+use Rattle.tail_writer.specs.Zone.{zoneMark, zoneOk}
+use Rattle.tail_writer.specs.Calendar.{isIso, calendarMark, calendarOk}
 use Rattle.writer.specs.Stamp.{timePartOk, offsetPartOk, zonePartOk, calendarPartOk}
 use Rattle.date_syntax.specs.Syntax as dates
 use Rattle.time_syntax.specs.Syntax as times

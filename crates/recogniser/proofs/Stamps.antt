@@ -42,11 +42,11 @@ use Rattle.record.specs.Separators.{timeSeparators, offsetSeparators, separator
 use Rattle.names.specs.Grammar.{ZoneName, CalendarName}
 use Rattle.names.proofs.Exact.{zone-reads, calendar-reads, zone-name-exact, calendar-name-exact}
 use Rattle.precision.specs.Precision.{precisionOk}
-use Rattle.parts.specs.Date.{dateOk}
-use Rattle.parts.specs.Time.{clockOk, timeOk}
-use Rattle.parts.specs.Offset.{offsetOk}
-use Rattle.parts.specs.Zone.{zoneMark, zoneOk}
-use Rattle.parts.specs.Calendar.{isIso, calendarMark, calendarOk}
+use Rattle.date_writer.specs.Date.{dateOk}
+use Rattle.time_writer.specs.Time.{clockOk, timeOk}
+use Rattle.time_writer.specs.Offset.{offsetOk}
+use Rattle.tail_writer.specs.Zone.{zoneMark, zoneOk}
+use Rattle.tail_writer.specs.Calendar.{isIso, calendarMark, calendarOk}
 use Rattle.writer.specs.Stamp.{timePartOk, offsetPartOk, fieldsOk, zonePartOk, calendarPartOk, namesOk, hasTime, showsOffset, partsOk}
 use Rattle.date_syntax.specs.Syntax as dates
 use Rattle.time_syntax.specs.Read.{pointByte}

@@ -43,15 +43,15 @@ use Rattle.record.specs.Separators.{timeSeparators, utcSeparators, offsetSepara
 use Rattle.names.specs.Grammar.{ZoneName, CalendarName}
 use Rattle.names.proofs.Exact.{zone-name-exact, calendar-name-exact}
 use Rattle.precision.specs.Precision.{subSecond}
-use Rattle.parts.specs.declared.annotation.Mark.{Mark}
-use Rattle.parts.specs.declared.annotation.Mark.the-variants.{Hidden, Plain, Critical}
-use Rattle.parts.specs.Date.{yearText, dashed, dateText, dateOk}
-use Rattle.parts.specs.Time.{seconds, unlessMinute, timeText, timeOk}
-use Rattle.parts.specs.Offset.{signByte, signedText, utcText, unlessNever, offsetText, utcOk, offsetOk}
-use Rattle.parts.specs.Annotation.{nameIn, bracketed, annotation}
-use Rattle.parts.specs.Zone.{zoneMark, zoneText, zoneOk}
-use Rattle.parts.specs.Calendar.{calendarKey, isIso, calendarMark, calendarText, calendarOk}
-use Rattle.parts.proofs.TimeLaws.{time-in}
+use Rattle.tail_writer.specs.declared.annotation.Mark.{Mark}
+use Rattle.tail_writer.specs.declared.annotation.Mark.the-variants.{Hidden, Plain, Critical}
+use Rattle.date_writer.specs.Date.{yearText, dashed, dateText, dateOk}
+use Rattle.time_writer.specs.Time.{seconds, unlessMinute, timeText, timeOk}
+use Rattle.time_writer.specs.Offset.{signByte, signedText, utcText, unlessNever, offsetText, utcOk, offsetOk}
+use Rattle.tail_writer.specs.Annotation.{nameIn, bracketed, annotation}
+use Rattle.tail_writer.specs.Zone.{zoneMark, zoneText, zoneOk}
+use Rattle.tail_writer.specs.Calendar.{calendarKey, isIso, calendarMark, calendarText, calendarOk}
+use Rattle.time_writer.proofs.TimeLaws.{time-in}
 use Rattle.writer.specs.Stamp.{hasDate, datePartText, timePartText, offsetPartText, zonePartText, calendarPartText, stampText, datePartOk, timePartOk, offsetPartOk, zonePartOk, calendarPartOk, hasTime, shows, showsOffset, partsOk}
 use Rattle.writer.proofs.StampLaws.{fields-in, names-in}
 use Rattle.date_syntax.specs.Syntax as dates

@@ -33,15 +33,15 @@ use Rattle.record.specs.declared.stamp.CalendarPart.{CalendarPart}
 use Rattle.record.specs.declared.stamp.CalendarPart.the-variants as calendar
 use Rattle.record.specs.declared.stamp.Stamp.{Stamp}
 use Rattle.record.specs.declared.shown.ClockPart.the-variants as clock
-use Rattle.parts.specs.declared.annotation.Mark.{Mark}
-use Rattle.parts.specs.declared.annotation.Mark.the-variants.{Hidden, Plain, Critical}
-use Rattle.parts.specs.Date.{dateOk}
-use Rattle.parts.specs.Time.{timeOk}
-use Rattle.parts.specs.Offset.{utcOk, offsetOk}
-use Rattle.parts.specs.Annotation.{nameIn}
-use Rattle.parts.specs.Zone.{zoneMark}
-use Rattle.parts.specs.Calendar.{isIso, calendarMark}
-use Rattle.parts.proofs.TimeLaws.{time-in}
+use Rattle.tail_writer.specs.declared.annotation.Mark.{Mark}
+use Rattle.tail_writer.specs.declared.annotation.Mark.the-variants.{Hidden, Plain, Critical}
+use Rattle.date_writer.specs.Date.{dateOk}
+use Rattle.time_writer.specs.Time.{timeOk}
+use Rattle.time_writer.specs.Offset.{utcOk, offsetOk}
+use Rattle.tail_writer.specs.Annotation.{nameIn}
+use Rattle.tail_writer.specs.Zone.{zoneMark}
+use Rattle.tail_writer.specs.Calendar.{isIso, calendarMark}
+use Rattle.time_writer.proofs.TimeLaws.{time-in}
 use Rattle.writer.specs.Stamp.{stampText, timePartOk, offsetPartOk, hasTime, showsOffset}
 use Rattle.writer.proofs.Longest.{longest}
 use Rattle.time_syntax.specs.Syntax as times

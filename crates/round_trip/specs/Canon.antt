@@ -24,11 +24,11 @@ use Rattle.record.specs.declared.stamp.CalendarPart.{CalendarPart}
 use Rattle.record.specs.declared.stamp.CalendarPart.the-variants as calendar
 use Rattle.record.specs.declared.stamp.Stamp.{Stamp}
 use Rattle.precision.specs.Precision.{digitsShown}
-use Rattle.parts.specs.declared.annotation.Mark.{Mark}
-use Rattle.parts.specs.declared.annotation.Mark.the-variants.{Hidden, Plain, Critical}
-use Rattle.parts.specs.Annotation.{nameIn}
-use Rattle.parts.specs.Zone.{zoneMark}
-use Rattle.parts.specs.Calendar.{isIso, calendarMark}
+use Rattle.tail_writer.specs.declared.annotation.Mark.{Mark}
+use Rattle.tail_writer.specs.declared.annotation.Mark.the-variants.{Hidden, Plain, Critical}
+use Rattle.tail_writer.specs.Annotation.{nameIn}
+use Rattle.tail_writer.specs.Zone.{zoneMark}
+use Rattle.tail_writer.specs.Calendar.{isIso, calendarMark}
 use Rattle.date_syntax.specs.Syntax as dates
 use Rattle.time_syntax.specs.Syntax as times
 use Rattle.tail_syntax.specs.Read.{uca}

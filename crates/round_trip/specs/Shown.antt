@@ -28,11 +28,11 @@ use Rattle.record.specs.declared.shown.ClockPart.the-variants as clock
 use Rattle.record.specs.declared.shown.ShownOffset.{ShownOffset}
 use Rattle.record.specs.declared.shown.ShownOffset.the-variants as offset
 use Rattle.record.specs.Separators.{separatorsOn}
-use Rattle.parts.specs.declared.annotation.Mark.{Mark}
-use Rattle.parts.specs.declared.annotation.Mark.the-variants.{Hidden, Plain, Critical}
-use Rattle.parts.specs.Annotation.{nameIn}
-use Rattle.parts.specs.Zone.{zoneMark}
-use Rattle.parts.specs.Calendar.{isIso, calendarMark}
+use Rattle.tail_writer.specs.declared.annotation.Mark.{Mark}
+use Rattle.tail_writer.specs.declared.annotation.Mark.the-variants.{Hidden, Plain, Critical}
+use Rattle.tail_writer.specs.Annotation.{nameIn}
+use Rattle.tail_writer.specs.Zone.{zoneMark}
+use Rattle.tail_writer.specs.Calendar.{isIso, calendarMark}
 use Rattle.writer.specs.Stamp.{hasDate, fieldsOk, namesOk, partsOk}
 use Rattle.meaning.specs.Said.{NameSaid, unsaid, said, Said}
 

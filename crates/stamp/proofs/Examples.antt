@@ -40,12 +40,12 @@ use Rattle.precision.specs.Precision.{subSecond}
 use Rattle.names.specs.Field.{digit, pairOf, field}
 use Rattle.names.specs.Scan.{wordStep, joinStep, dotStep, keyStep, runStep, partStep, valueStep, zoneStep, step, wholeOf, runOf, keyRun, calendarRun, numericOf, numericRun, zoneRun}
 use Rattle.names.specs.Name.{nameInside, nameOk, zoneNameOk, calendarNameOk}
-use Rattle.parts.specs.Date.{yearText, dateText, dateOk, dateJudged}
-use Rattle.parts.specs.Time.{seconds, timeText, clockOk, timeOk, timeJudged}
-use Rattle.parts.specs.Offset.{signedText, offsetText, offsetOk}
-use Rattle.parts.specs.Annotation.{bracketed}
-use Rattle.parts.specs.Zone.{zoneText, zoneOk}
-use Rattle.parts.specs.Calendar.{isIso, calendarText, calendarOk}
+use Rattle.date_writer.specs.Date.{yearText, dateText, dateOk, dateJudged}
+use Rattle.time_writer.specs.Time.{seconds, timeText, clockOk, timeOk, timeJudged}
+use Rattle.time_writer.specs.Offset.{signedText, offsetText, offsetOk}
+use Rattle.tail_writer.specs.Annotation.{bracketed}
+use Rattle.tail_writer.specs.Zone.{zoneText, zoneOk}
+use Rattle.tail_writer.specs.Calendar.{isIso, calendarText, calendarOk}
 use Rattle.writer.specs.Partial.{monthDayText, monthDayJudged}
 use Rattle.writer.specs.Stamp.{stampText, fieldsOk, namesOk, partsOk, stampJudged}
 use Rattle.duration.specs.Duration.{unit, dateUnits, secondsShown, secondsText, timeUnits, partsText, durationText, durationOk, durationPartsOk, durationJudged}

@@ -59,18 +59,18 @@ pub use text::digits::NineDigits;
 pub use text::digits::u32_to_digits;
 
 // Lengths and writers.
+pub use date_writer::date::date_length;
+pub use date_writer::date::write_date;
 pub use duration::duration_length;
 pub use duration::write_duration;
-pub use parts::calendar::calendar_length;
-pub use parts::calendar::write_calendar;
-pub use parts::date::date_length;
-pub use parts::date::write_date;
-pub use parts::offset::offset_length;
-pub use parts::offset::write_offset;
-pub use parts::time::time_length;
-pub use parts::time::write_time;
-pub use parts::zone::write_zone;
-pub use parts::zone::zone_length;
+pub use tail_writer::calendar::calendar_length;
+pub use tail_writer::calendar::write_calendar;
+pub use tail_writer::zone::write_zone;
+pub use tail_writer::zone::zone_length;
+pub use time_writer::offset::offset_length;
+pub use time_writer::offset::write_offset;
+pub use time_writer::time::time_length;
+pub use time_writer::time::write_time;
 pub use writer::partial::month_day_length;
 pub use writer::partial::write_month_day;
 pub use writer::partial::write_year_month;

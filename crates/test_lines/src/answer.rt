@@ -14,14 +14,28 @@ pub fn add_word(buf: &mut [u8], at: usize, word: &[u8]) -> usize {
     put_text(buf, o, word)
 }
 
-pub fn add_number(buf: &mut [u8], at: usize, n: u64) -> usize {
+// The digits of a number.
+fn put_number(buf: &mut [u8], at: usize, n: u64) -> usize {
     if n < 10 {
-        let o = put_blank(buf, at);
-        return put_byte(buf, o, 48 + n as u8);
+        return put_byte(buf, at, 48 + n as u8);
     }
     let mut digits = [0u8; 20];
     let k = io::decimal(n, &mut digits);
-    add_word(buf, at, &digits[..k])
+    put_text(buf, at, &digits[..k])
+}
+
+pub fn add_number(buf: &mut [u8], at: usize, n: u64) -> usize {
+    let o = put_blank(buf, at);
+    put_number(buf, o, n)
+}
+
+// A number with its sign apart.
+pub fn add_signed(buf: &mut [u8], at: usize, negative: bool, magnitude: u64) -> usize {
+    if negative {
+        let o = add_word(buf, at, b"-");
+        return put_number(buf, o, magnitude);
+    }
+    add_number(buf, at, magnitude)
 }
 
 pub fn add_flag(buf: &mut [u8], at: usize, flag: bool) -> usize {

@@ -76,6 +76,12 @@ const BLANK: u8 = 32;
 
 const MINUS: u8 = 45;
 
+// A line has at most so many bytes.
+pub const MOST: usize = 2200;
+
+// The texts of a line, decoded, take fewer bytes than this.
+pub const LENT: usize = 1100;
+
 // A place past every line.
 const NOWHERE: usize = usize::MAX;
 

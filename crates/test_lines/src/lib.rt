@@ -2,3 +2,4 @@
 pub mod answer;
 pub mod buffer;
 pub mod fields;
+pub mod judged;

@@ -26,6 +26,7 @@ use record::Zone;
 use record::ZonePart;
 use test_lines::buffer::between;
 use test_lines::buffer::put_text;
+use test_lines::fields::LENT;
 use test_lines::fields::flag_at;
 use test_lines::fields::hex_at;
 use test_lines::fields::i32_at;
@@ -35,9 +36,6 @@ use test_lines::fields::u8_at;
 use test_lines::fields::u32_at;
 use test_lines::fields::u64_at;
 use test_lines::fields::usize_at;
-
-// The texts of a line, decoded, take fewer bytes than this.
-pub const LENT: usize = 1100;
 
 pub struct DateAt {
     pub ok: bool,

@@ -35,12 +35,12 @@ use Rattle.precision.specs.Precision.{subSecond}
 use Rattle.names.specs.Field.{digit, pairOf, field}
 use Rattle.names.specs.Scan.{wordStep, joinStep, dotStep, runStep, partStep, valueStep, zoneStep, step, wholeOf, runOf, calendarRun, numericOf, numericRun, zoneRun}
 use Rattle.names.specs.Name.{nameInside, nameOk, zoneNameOk, calendarNameOk}
-use Rattle.parts.specs.Date.{yearText, dateText, dateOk, dateJudged}
-use Rattle.parts.specs.Time.{seconds, timeText, clockOk, timeOk, timeJudged}
-use Rattle.parts.specs.Offset.{signedText, offsetText, offsetOk, offsetJudged}
-use Rattle.parts.specs.Annotation.{bracketed}
-use Rattle.parts.specs.Zone.{zoneText, zoneOk, zoneJudged}
-use Rattle.parts.specs.Calendar.{isIso, calendarText, calendarOk, calendarJudged}
+use Rattle.date_writer.specs.Date.{yearText, dateText, dateOk, dateJudged}
+use Rattle.time_writer.specs.Time.{seconds, timeText, clockOk, timeOk, timeJudged}
+use Rattle.time_writer.specs.Offset.{signedText, offsetText, offsetOk, offsetJudged}
+use Rattle.tail_writer.specs.Annotation.{bracketed}
+use Rattle.tail_writer.specs.Zone.{zoneText, zoneOk, zoneJudged}
+use Rattle.tail_writer.specs.Calendar.{isIso, calendarText, calendarOk, calendarJudged}
 use Rattle.writer.specs.Partial.{monthDayText, yearMonthText, monthDayJudged, yearMonthJudged}
 use Rattle.writer.specs.Stamp.{stampText, fieldsOk, namesOk, partsOk, stampJudged}
 

@@ -33,16 +33,16 @@ use Rattle.precision.specs.Precision.{subSecond}
 use Rattle.iso.specs.Gregorian.{leapRule, isLeap, monthLengths, daysInMonth, validDate}
 use Rattle.names.specs.Scan.{wordStep, joinStep, dotStep, runStep, partStep, valueStep, zoneStep, step, wholeOf, runOf, calendarRun, zoneRun}
 use Rattle.names.specs.Name.{nameInside, nameOk, zoneNameOk, calendarNameOk}
-use Rattle.parts.specs.Date.{yearText, dateText, dateOk}
-use Rattle.parts.specs.Time.{seconds, timeText, clockOk, timeOk}
-use Rattle.parts.specs.Offset.{signedText, offsetText, offsetOk}
-use Rattle.parts.specs.Annotation.{bracketed}
-use Rattle.parts.specs.Zone.{zoneText, zoneOk}
-use Rattle.parts.specs.Calendar.{isIso, calendarText, calendarOk}
-use Rattle.parts.proofs.DateLaws.{date-most}
-use Rattle.parts.proofs.TimeLaws.{time-most}
-use Rattle.parts.proofs.OffsetLaws.{offset-most}
-use Rattle.parts.proofs.AnnotationLaws.{zone-most, calendar-most}
+use Rattle.date_writer.specs.Date.{yearText, dateText, dateOk}
+use Rattle.time_writer.specs.Time.{seconds, timeText, clockOk, timeOk}
+use Rattle.time_writer.specs.Offset.{signedText, offsetText, offsetOk}
+use Rattle.tail_writer.specs.Annotation.{bracketed}
+use Rattle.tail_writer.specs.Zone.{zoneText, zoneOk}
+use Rattle.tail_writer.specs.Calendar.{isIso, calendarText, calendarOk}
+use Rattle.date_writer.proofs.DateLaws.{date-most}
+use Rattle.time_writer.proofs.TimeLaws.{time-most}
+use Rattle.time_writer.proofs.OffsetLaws.{offset-most}
+use Rattle.tail_writer.proofs.AnnotationLaws.{zone-most, calendar-most}
 use Rattle.writer.specs.Stamp.{hasDate, datePartText, timePartText, offsetPartText, zonePartText, calendarPartText, stampText, timePartOk, offsetPartOk, fieldsOk, zonePartOk, calendarPartOk, namesOk, partsOk, stampJudged}
 use Rattle.writer.proofs.StampLaws.{length-timed, length-stamp, fields-in, names-in}
 

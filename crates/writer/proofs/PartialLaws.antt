@@ -6,8 +6,8 @@ use native.Mathlib.Omega.{arith}
 use lib.ListN.{length, length-append}
 use Rattle.record.specs.declared.stamp.Date.{Date}
 use Rattle.record.specs.declared.stamp.Calendar.{Calendar}
-use Rattle.parts.specs.Date.{yearText}
-use Rattle.parts.specs.Calendar.{calendarText}
+use Rattle.date_writer.specs.Date.{yearText}
+use Rattle.tail_writer.specs.Calendar.{calendarText}
 use Rattle.writer.specs.Partial.{whole, leadingYear, trailingDay, monthDayText, yearMonthText}
 
 pub length-month-day : (lent : List ℕ) (d : Date) (c : Calendar)

@@ -10,7 +10,7 @@ use Rattle.text.specs.Put.{mark}
 use Rattle.text.proofs.Answers.{both}
 use Rattle.record.specs.declared.stamp.Time.{Time}
 use Rattle.record.specs.declared.stamp.Stamp.{Stamp}
-use Rattle.parts.specs.Time.{timeText}
+use Rattle.time_writer.specs.Time.{timeText}
 use Rattle.writer.specs.Stamp.{hasDate, datePartText, timePartText, offsetPartText, zonePartText, calendarPartText, stampText, datePartOk, timePartOk, offsetPartOk, fieldsOk, zonePartOk, calendarPartOk, namesOk}
 
 pub length-timed : (dated : Bool) (t : Time) → length (mark dated 84 ++ timeText t) ≡ length (mark dated 84) + length (timeText t)

@@ -9,8 +9,8 @@ use Rattle.record.specs.declared.stamp.Date.{Date}
 use Rattle.record.specs.declared.stamp.DisplayCalendar.{DisplayCalendar}
 use Rattle.record.specs.declared.stamp.DisplayCalendar.the-variants.{Auto, Always, Never, Critical}
 use Rattle.record.specs.declared.stamp.Calendar.{Calendar}
-use Rattle.parts.specs.Date.{yearText, dashed, dateOk}
-use Rattle.parts.specs.Calendar.{isIso, calendarText, calendarOk}
+use Rattle.date_writer.specs.Date.{yearText, dashed, dateOk}
+use Rattle.tail_writer.specs.Calendar.{isIso, calendarText, calendarOk}
 
 -- the whole date is written when the calendar is Always or Critical or not `iso8601`
 abbrev pub wholeDate : DisplayCalendar → Bool → Bool

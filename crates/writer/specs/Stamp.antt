@@ -17,11 +17,11 @@ use Rattle.record.specs.declared.stamp.ZonePart.the-variants as zone
 use Rattle.record.specs.declared.stamp.CalendarPart.{CalendarPart}
 use Rattle.record.specs.declared.stamp.CalendarPart.the-variants as calendar
 use Rattle.record.specs.declared.stamp.Stamp.{Stamp}
-use Rattle.parts.specs.Date.{dateText, dateOk}
-use Rattle.parts.specs.Time.{timeText, timeOk}
-use Rattle.parts.specs.Offset.{offsetText, offsetOk}
-use Rattle.parts.specs.Zone.{zoneText, zoneOk}
-use Rattle.parts.specs.Calendar.{calendarText, calendarOk}
+use Rattle.date_writer.specs.Date.{dateText, dateOk}
+use Rattle.time_writer.specs.Time.{timeText, timeOk}
+use Rattle.time_writer.specs.Offset.{offsetText, offsetOk}
+use Rattle.tail_writer.specs.Zone.{zoneText, zoneOk}
+use Rattle.tail_writer.specs.Calendar.{calendarText, calendarOk}
 
 -- ---- the text: date, `T` if both, time, offset, zone, calendar (Temporal's ISODateTimeToString, with RFC 9557's annotations)
 abbrev pub hasDate : DatePart → Bool

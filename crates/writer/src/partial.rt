@@ -9,8 +9,8 @@ ghost use mathlib.Core.Path.{_≡_};
 ghost use Prim.Native.Nat.{_<_};
 ghost use Rattle.text.specs.Put.{Room, Put, Count};
 ghost use Rattle.text.specs.Answer.{lengthOf, Wrote};
-ghost use Rattle.parts.specs.Date.{dateOk};
-ghost use Rattle.parts.specs.Calendar.{calendarOk};
+ghost use Rattle.date_writer.specs.Date.{dateOk};
+ghost use Rattle.tail_writer.specs.Calendar.{calendarOk};
 ghost use Rattle.writer.specs.Partial.{wholeDate, whole, leadingYear, trailingDay, monthDayText, yearMonthText, monthDayJudged, yearMonthJudged};
 
 fn whole_date(show: DisplayCalendar, iso: bool) -> bool
@@ -29,7 +29,7 @@ fn is_whole(lent: &[u8], c: Calendar) -> bool
     ensures { λ r. ⌜ r ≡ whole (now (lent .entry)) c ⌝ }
 {
     let show = c.show;
-    whole_date(show, parts::calendar::is_iso(lent, c))
+    whole_date(show, tail_writer::calendar::is_iso(lent, c))
 }
 
 fn put_leading_year(buf: &mut [u8], at: usize, all: bool, year: i32) -> usize
@@ -37,7 +37,7 @@ fn put_leading_year(buf: &mut [u8], at: usize, all: bool, year: i32) -> usize
     ensures { λ r. ⌜ Put (now (buf .entry)) at (leadingYear all year) (now (buf .exit)) r ⌝ }
 {
     if all {
-        let m = parts::date::put_year(buf, at, year);
+        let m = date_writer::date::put_year(buf, at, year);
         return text::put::put_byte(buf, m, b'-');
     }
     at
@@ -49,7 +49,7 @@ fn put_trailing_day(buf: &mut [u8], at: usize, all: bool, day: u8) -> usize
     ensures { λ r. ⌜ Put (now (buf .entry)) at (trailingDay all day) (now (buf .exit)) r ⌝ }
 {
     if all {
-        return parts::date::put_dashed(buf, at, day);
+        return date_writer::date::put_dashed(buf, at, day);
     }
     at
 }
@@ -62,8 +62,8 @@ fn put_month_day(buf: &mut [u8], at: usize, lent: &[u8], d: Date, c: Calendar) -
     let all = is_whole(lent, c);
     let m = put_leading_year(buf, at, all, d.year);
     let n = text::put::write_padded_u8(buf, m, d.month);
-    let o = parts::date::put_dashed(buf, n, d.day);
-    parts::calendar::put_calendar(buf, o, lent, c)
+    let o = date_writer::date::put_dashed(buf, n, d.day);
+    tail_writer::calendar::put_calendar(buf, o, lent, c)
 }
 
 fn put_year_month(buf: &mut [u8], at: usize, lent: &[u8], d: Date, c: Calendar) -> usize
@@ -72,17 +72,17 @@ fn put_year_month(buf: &mut [u8], at: usize, lent: &[u8], d: Date, c: Calendar) 
     ensures { λ r. ⌜ Put (now (buf .entry)) at (yearMonthText (now (lent .entry)) d c) (now (buf .exit)) r ⌝ }
 {
     let all = is_whole(lent, c);
-    let m = parts::date::put_year(buf, at, d.year);
-    let n = parts::date::put_dashed(buf, m, d.month);
+    let m = date_writer::date::put_year(buf, at, d.year);
+    let n = date_writer::date::put_dashed(buf, m, d.month);
     let o = put_trailing_day(buf, n, all, d.day);
-    parts::calendar::put_calendar(buf, o, lent, c)
+    tail_writer::calendar::put_calendar(buf, o, lent, c)
 }
 
 fn leading_year_bytes(all: bool, year: i32) -> usize
     ensures { λ r. ⌜ Count (leadingYear all year) 8 r ⌝ }
 {
     if all {
-        return parts::date::year_bytes(year) + 1;
+        return date_writer::date::year_bytes(year) + 1;
     }
     0
 }
@@ -101,7 +101,7 @@ fn month_day_bytes(lent: &[u8], d: Date, c: Calendar) -> usize
     ensures { λ r. ⌜ Count (monthDayText (now (lent .entry)) d c) 85 r ⌝ }
 {
     let all = is_whole(lent, c);
-    leading_year_bytes(all, d.year) + 5 + parts::calendar::calendar_bytes(lent, c)
+    leading_year_bytes(all, d.year) + 5 + tail_writer::calendar::calendar_bytes(lent, c)
 }
 
 fn year_month_bytes(lent: &[u8], d: Date, c: Calendar) -> usize
@@ -109,18 +109,18 @@ fn year_month_bytes(lent: &[u8], d: Date, c: Calendar) -> usize
     ensures { λ r. ⌜ Count (yearMonthText (now (lent .entry)) d c) 85 r ⌝ }
 {
     let all = is_whole(lent, c);
-    parts::date::year_bytes(d.year)
+    date_writer::date::year_bytes(d.year)
         + 3
         + trailing_day_bytes(all, d.day)
-        + parts::calendar::calendar_bytes(lent, c)
+        + tail_writer::calendar::calendar_bytes(lent, c)
 }
 
 // The exact length of a month-day's text; 2 for a date out of range, 3 for what is no calendar name.
 pub fn month_day_length(lent: &[u8], d: Date, c: Calendar) -> LengthAnswer
     ensures { λ r. ⌜ r ≡ lengthOf (monthDayJudged (now (lent .entry)) d c) ⌝ }
 {
-    if parts::date::date_ok(d) {
-        if parts::calendar::calendar_ok(lent, c) {
+    if date_writer::date::date_ok(d) {
+        if tail_writer::calendar::calendar_ok(lent, c) {
             return LengthAnswer::Length(month_day_bytes(lent, d, c));
         }
         return LengthAnswer::Refused(text::refusal::BAD_NAME);
@@ -132,8 +132,8 @@ pub fn month_day_length(lent: &[u8], d: Date, c: Calendar) -> LengthAnswer
 pub fn year_month_length(lent: &[u8], d: Date, c: Calendar) -> LengthAnswer
     ensures { λ r. ⌜ r ≡ lengthOf (yearMonthJudged (now (lent .entry)) d c) ⌝ }
 {
-    if parts::date::date_ok(d) {
-        if parts::calendar::calendar_ok(lent, c) {
+    if date_writer::date::date_ok(d) {
+        if tail_writer::calendar::calendar_ok(lent, c) {
             return LengthAnswer::Length(year_month_bytes(lent, d, c));
         }
         return LengthAnswer::Refused(text::refusal::BAD_NAME);

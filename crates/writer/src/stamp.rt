@@ -39,7 +39,7 @@ fn put_date_part(buf: &mut [u8], at: usize, p: DatePart) -> usize
 {
     match p {
         DatePart::Absent => at,
-        DatePart::Is(d) => parts::date::put_date(buf, at, d),
+        DatePart::Is(d) => date_writer::date::put_date(buf, at, d),
     }
 }
 
@@ -52,7 +52,7 @@ fn put_time_part(buf: &mut [u8], at: usize, dated: bool, p: TimePart) -> usize
         TimePart::Absent => at,
         TimePart::Is(t) => {
             let m = text::put::put_mark(buf, at, dated, b'T');
-            parts::time::put_time(buf, m, t)
+            time_writer::time::put_time(buf, m, t)
         }
     }
 }
@@ -64,7 +64,7 @@ fn put_offset_part(buf: &mut [u8], at: usize, p: OffsetPart) -> usize
 {
     match p {
         OffsetPart::Absent => at,
-        OffsetPart::Is(o) => parts::offset::put_offset(buf, at, o),
+        OffsetPart::Is(o) => time_writer::offset::put_offset(buf, at, o),
     }
 }
 
@@ -74,7 +74,7 @@ fn put_zone_part(buf: &mut [u8], at: usize, lent: &[u8], p: ZonePart) -> usize
 {
     match p {
         ZonePart::Absent => at,
-        ZonePart::Is(z) => parts::zone::put_zone(buf, at, lent, z),
+        ZonePart::Is(z) => tail_writer::zone::put_zone(buf, at, lent, z),
     }
 }
 
@@ -84,7 +84,7 @@ fn put_calendar_part(buf: &mut [u8], at: usize, lent: &[u8], p: CalendarPart) ->
 {
     match p {
         CalendarPart::Absent => at,
-        CalendarPart::Is(c) => parts::calendar::put_calendar(buf, at, lent, c),
+        CalendarPart::Is(c) => tail_writer::calendar::put_calendar(buf, at, lent, c),
     }
 }
 
@@ -111,7 +111,7 @@ fn date_part_bytes(p: DatePart) -> usize
 {
     match p {
         DatePart::Absent => 0,
-        DatePart::Is(d) => parts::date::date_bytes(d),
+        DatePart::Is(d) => date_writer::date::date_bytes(d),
     }
 }
 
@@ -121,7 +121,7 @@ fn time_part_bytes(dated: bool, p: TimePart) -> usize
 {
     match p {
         TimePart::Absent => 0,
-        TimePart::Is(t) => text::put::mark_bytes(dated, b'T') + parts::time::time_bytes(t),
+        TimePart::Is(t) => text::put::mark_bytes(dated, b'T') + time_writer::time::time_bytes(t),
     }
 }
 
@@ -131,7 +131,7 @@ fn offset_part_bytes(p: OffsetPart) -> usize
 {
     match p {
         OffsetPart::Absent => 0,
-        OffsetPart::Is(o) => parts::offset::offset_bytes(o),
+        OffsetPart::Is(o) => time_writer::offset::offset_bytes(o),
     }
 }
 
@@ -141,7 +141,7 @@ fn zone_part_bytes(lent: &[u8], p: ZonePart) -> usize
 {
     match p {
         ZonePart::Absent => 0,
-        ZonePart::Is(z) => parts::zone::zone_bytes(lent, z),
+        ZonePart::Is(z) => tail_writer::zone::zone_bytes(lent, z),
     }
 }
 
@@ -151,7 +151,7 @@ fn calendar_part_bytes(lent: &[u8], p: CalendarPart) -> usize
 {
     match p {
         CalendarPart::Absent => 0,
-        CalendarPart::Is(c) => parts::calendar::calendar_bytes(lent, c),
+        CalendarPart::Is(c) => tail_writer::calendar::calendar_bytes(lent, c),
     }
 }
 
@@ -179,7 +179,7 @@ fn date_part_ok(p: DatePart) -> bool
 {
     match p {
         DatePart::Absent => true,
-        DatePart::Is(d) => parts::date::date_ok(d),
+        DatePart::Is(d) => date_writer::date::date_ok(d),
     }
 }
 
@@ -188,7 +188,7 @@ fn time_part_ok(p: TimePart) -> bool
 {
     match p {
         TimePart::Absent => true,
-        TimePart::Is(t) => parts::time::time_ok(t),
+        TimePart::Is(t) => time_writer::time::time_ok(t),
     }
 }
 
@@ -197,7 +197,7 @@ fn offset_part_ok(p: OffsetPart) -> bool
 {
     match p {
         OffsetPart::Absent => true,
-        OffsetPart::Is(o) => parts::offset::offset_ok(o),
+        OffsetPart::Is(o) => time_writer::offset::offset_ok(o),
     }
 }
 
@@ -215,7 +215,7 @@ fn zone_part_ok(lent: &[u8], p: ZonePart) -> bool
 {
     match p {
         ZonePart::Absent => true,
-        ZonePart::Is(z) => parts::zone::zone_ok(lent, z),
+        ZonePart::Is(z) => tail_writer::zone::zone_ok(lent, z),
     }
 }
 
@@ -224,7 +224,7 @@ fn calendar_part_ok(lent: &[u8], p: CalendarPart) -> bool
 {
     match p {
         CalendarPart::Absent => true,
-        CalendarPart::Is(c) => parts::calendar::calendar_ok(lent, c),
+        CalendarPart::Is(c) => tail_writer::calendar::calendar_ok(lent, c),
     }
 }
 

@@ -4,7 +4,7 @@ use native.Mathlib.Omega.{arith}
 use borrow.Author.Needs.{needs}
 use lib.ListN.{length-append}
 use mir.Facts.{toZ-ofZ}
-use Rattle.parts.specs.Date.{yearText}
+use Rattle.date_writer.specs.Date.{yearText}
 use Rattle.writer.proofs.partial.leading_year_bytes.Statement.{statement}
 use Rattle.writer.proofs.partial.leading_year_bytes.Tie as tie
 

@@ -6,7 +6,7 @@ use borrow.Author.Needs.{needs}
 use lib.ListN.{length-append}
 use mir.Facts.{toZ-ofZ}
 use Rattle.text.proofs.PutLaws.{put-none, chain2, room-last}
-use Rattle.parts.specs.Date.{yearText}
+use Rattle.date_writer.specs.Date.{yearText}
 use Rattle.writer.proofs.partial.put_leading_year.Statement.{statement}
 use Rattle.writer.proofs.partial.put_leading_year.Tie as tie
 

@@ -7,7 +7,7 @@ use mir.Syntax.{w32}
 use mir.Facts.{toZ-ofZ}
 use Rattle.text.proofs.PutLaws.{put-more, chain4, room-last}
 use Rattle.writer.specs.Partial.{monthDayText}
-use Rattle.parts.proofs.DateLaws.{date-in}
+use Rattle.date_writer.proofs.DateLaws.{date-in}
 use Rattle.writer.proofs.PartialLaws.{length-month-day}
 use Rattle.writer.proofs.partial.put_month_day.Statement.{statement}
 use Rattle.writer.proofs.partial.put_month_day.Tie as tie

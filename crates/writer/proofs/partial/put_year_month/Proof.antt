@@ -9,7 +9,7 @@ use mir.Syntax.{w32}
 use mir.Facts.{toZ-ofZ}
 use Rattle.text.proofs.PutLaws.{put-more, chain4, room-last}
 use Rattle.writer.specs.Partial.{trailingDay, yearMonthText}
-use Rattle.parts.proofs.DateLaws.{date-in}
+use Rattle.date_writer.proofs.DateLaws.{date-in}
 use Rattle.writer.proofs.PartialLaws.{length-year-month}
 use Rattle.writer.proofs.partial.put_year_month.Statement.{statement}
 use Rattle.writer.proofs.partial.put_year_month.Tie as tie

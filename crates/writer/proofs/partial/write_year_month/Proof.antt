@@ -3,8 +3,8 @@ use borrow.Author.Needs.{needs}
 use mathlib.Core.Bool.{true}
 use denote.Ref.{now}
 use Rattle.text.proofs.Answers.{answers, accepted, refused, wrote, room}
-use Rattle.parts.specs.Date.{dateOk}
-use Rattle.parts.specs.Calendar.{calendarOk}
+use Rattle.date_writer.specs.Date.{dateOk}
+use Rattle.tail_writer.specs.Calendar.{calendarOk}
 use Rattle.writer.specs.Partial.{yearMonthText, yearMonthJudged}
 use Rattle.writer.proofs.partial.write_year_month.Statement.{statement}
 use Rattle.writer.proofs.partial.write_year_month.Tie as tie

@@ -1,0 +1,3 @@
+-- What several proofs, and the crates above, cite.
+pub mod TimeLaws
+pub mod OffsetLaws

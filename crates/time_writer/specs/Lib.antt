@@ -1,0 +1,3 @@
+-- The definitions that the contracts of this crate, and the crates above, cite.
+pub mod Time
+pub mod Offset
