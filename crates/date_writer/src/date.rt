@@ -11,16 +11,6 @@ ghost use Rattle.text.specs.Digits.{decimal};
 ghost use Rattle.text.specs.Answer.{lengthOf, Wrote};
 ghost use Rattle.date_writer.specs.Date.{yearText, dashed, dateText, dateOk, dateJudged};
 
-// The four low digits of a number.
-fn put_four(buf: &mut [u8], at: usize, n: u32) -> usize
-    requires { ⌜ Room (now buf) at (decimal 4 n) ⌝ }
-    ensures { λ r. ⌜ Put (now (buf .entry)) at (decimal 4 n) (now (buf .exit)) r ⌝ }
-{
-    let s = text::digits::u32_to_digits(n);
-    let ds = s.digits;
-    text::put::put_digits(buf, at, ds, 5, 9)
-}
-
 // A sign and the six low digits of a number.
 fn put_six(buf: &mut [u8], at: usize, sign: u8, n: u32) -> usize
     requires { ⌜ Room (now buf) at (sign ∷ decimal 6 n) ⌝ }
@@ -41,7 +31,7 @@ pub fn put_year(buf: &mut [u8], at: usize, year: i32) -> usize
         return put_six(buf, at, b'-', n);
     }
     if n < 10000 {
-        return put_four(buf, at, n);
+        return text::put::put_four(buf, at, n);
     }
     put_six(buf, at, b'+', n)
 }

@@ -1,6 +1,8 @@
 // The Gregorian rule, for every i32 year, and the checks of a date and a time of day. `magnitude` is the one function that computes with
 // a signed number.
 ghost use mathlib.Core.Path.{_≡_};
+ghost use mathlib.Core.Bool.{_&&_};
+ghost use lib.Dec.{leb};
 ghost use lib.IntN.{natAbs};
 ghost use Rattle.iso.specs.Gregorian.{isLeap, daysInMonth, validDate};
 ghost use Rattle.iso.specs.TimeOfDay.{validTime};
@@ -44,9 +46,19 @@ pub fn iso_days_in_month(year: i32, month: u8) -> u8
     }
 }
 
+// A day that its month has in every year, as most days are.
+fn in_every_year(month: u8, day: u8) -> bool
+    ensures { λ r. ⌜ r ≡ (leb 1 month && leb month 12 && leb 1 day && leb day 28) ⌝ }
+{
+    (1 <= month) & (month <= 12) & (1 <= day) & (day <= 28)
+}
+
 pub fn is_valid_date(year: i32, month: u8, day: u8) -> bool
     ensures { λ r. ⌜ r ≡ validDate year month day ⌝ }
 {
+    if in_every_year(month, day) {
+        return true;
+    }
     (1 <= day) & (day <= iso_days_in_month(year, month))
 }
 

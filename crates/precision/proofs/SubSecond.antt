@@ -2,15 +2,18 @@
 --     shown-as     the text is that of the digits and the count
 --     shown-span   at most nine digits are shown
 --     sub-second-most   so it has at most ten bytes, with the point
+--     auto-nine, digit-nine               where that is all nine digits
+--     auto-none, minute-none, digit-none  where that is nothing
 use mathlib.Core.Path.{_≡_, refl, ap, _∙_}
-use mathlib.Core.Bool.{true}
-use mathlib.Core.List.{List}
-use Prim.Native.Nat.{ℕ, zero, suc, _≤_, zero-le}
+use mathlib.Core.Bool.{true, not}
+use mathlib.Core.List.{List, [], _∷_}
+use Prim.Native.Nat.{ℕ, zero, suc, _≤_, _%_, zero-le}
 use native.Mathlib.Omega.{arith}
-use borrow.Author.Tests.{leb-true}
+use borrow.Author.Tests.{leb-true, eqb-true, eqb-false, not-true}
+use lib.Dec.{eqb, lit<, lit≤}
 use lib.ListN.{length}
-use Rattle.text.specs.Digits.{digits, lastNonzero, fraction, Span}
-use Rattle.text.proofs.DigitLaws.{last-le, span-of, fraction-none, length-fraction}
+use Rattle.text.specs.Digits.{digits, decimal, lastNonzero, fraction, Span}
+use Rattle.text.proofs.DigitLaws.{last-found, last-le, span-of, fraction-none, length-fraction}
 use Rattle.record.specs.declared.stamp.Precision.{Precision}
 use Rattle.record.specs.declared.stamp.Precision.the-variants.{Auto, Minute, Digit}
 use Rattle.precision.specs.Precision.{digitsShown, precisionOk, subSecond}
@@ -40,3 +43,33 @@ fraction-most n (suc k) h = omega (arith, length-fraction (suc k) (digits 9 n) (
 pub sub-second-most : (p : Precision) (n : ℕ) → precisionOk p ≡ true → length (subSecond p n) ≤ 10
 unfolding subSecond
 sub-second-most p n h = fraction-most n _ (count-le p n h)
+
+-- ---- all nine digits, and none
+nine : (n k : ℕ) → k ≡ 9 → fraction k (digits 9 n) ≡ 46 ∷ decimal 9 n
+unfolding fraction
+nine n k e = rw e
+
+none : (n k : ℕ) → k ≡ 0 → fraction k (digits 9 n) ≡ []
+none n k e = fraction-none k (digits 9 n) e
+
+pub auto-nine : (p : Precision) (n : ℕ) → p ≡ Auto → not (eqb (n % 10) 0) ≡ true → subSecond p n ≡ 46 ∷ decimal 9 n
+unfolding subSecond
+auto-nine p n e h =
+    let z = eqb-false (n % 10) 0 (not-true _ h) in
+    rw e (nine n _ (last-found 9 (digits 9 n) (lit< tt) (lit≤ tt) (λ e. z (omega arith))))
+
+pub digit-nine : (p : Precision) (d n : ℕ) → p ≡ Digit d → eqb d 9 ≡ true → subSecond p n ≡ 46 ∷ decimal 9 n
+unfolding subSecond
+digit-nine p d n e h = rw e (nine n d (eqb-true d 9 h))
+
+pub auto-none : (p : Precision) (n : ℕ) → p ≡ Auto → eqb n 0 ≡ true → subSecond p n ≡ []
+unfolding subSecond lastNonzero
+auto-none p n e h = rw (e, eqb-true n 0 h) (none 0 _ refl)
+
+pub minute-none : (p : Precision) (n : ℕ) → p ≡ Minute → subSecond p n ≡ []
+unfolding subSecond
+minute-none p n e = rw e (none n 0 refl)
+
+pub digit-none : (p : Precision) (d n : ℕ) → p ≡ Digit d → eqb d 0 ≡ true → subSecond p n ≡ []
+unfolding subSecond
+digit-none p d n e h = rw e (none n d (eqb-true d 0 h))

@@ -4,14 +4,15 @@
 --     answers       the writer's answer, from what `fit` and the length function gave
 --     refused       the writer's answer is a refusal: the buffer stays as it was
 --     room, wrote   the answer is a count: the room that the inner writer asks; the text at the front of the buffer
+--     at-once       a record with a text, written where there is room without its length being asked first
 --     determined    the contract leaves no choice: the same record and buffer give the same answer and the same buffer
 use mathlib.Core.Path.{_≡_, refl, sym, ap, _∙_}
 use mathlib.Core.Bool.{Bool, true, false, cond, _&&_, false≢true}
 use mathlib.Core.List.{List}
-use Prim.Native.Nat.{ℕ}
+use Prim.Native.Nat.{ℕ, _≤_}
 use native.Mathlib.Nat.{zero-add}
 use native.Mathlib.Omega.{arith}
-use borrow.Author.Tests.{leb-true}
+use borrow.Author.Tests.{le-leb, leb-true}
 use lib.Dec.{leb}
 use lib.ListN.{length}
 use lib.Seq.{sets-eq}
@@ -69,6 +70,12 @@ module _ {j : Judged} {t : List ℕ} (b : List ℕ) {n : ℕ} (g : j ≡ good t)
 
   pub wrote : {b′ : List ℕ} {r : ℕ} → Put b 0 t b′ r → Wrote j b b′ (wr.Written n)
   wrote p = record { answer = e; buffer = rw (g, written b t (rw g at e) .0) (p .text ∙ sets-eq t b 0 (room .room) ∙ rw zero-add) }
+
+pub at-once : {j : Judged} {t b b′ : List ℕ} {r : ℕ} → j ≡ good t → length t ≤ length b → Put b 0 t b′ r → Wrote j b b′ (wr.Written r)
+at-once {j} {t} {b} {b′} {r} g h p =
+    let n : r ≡ length t = omega (arith, p .next) in
+    let e : wr.Written r ≡ answerOf j b = rw (g, le-leb (length t) (length b) h, n) in
+    wrote b g e p
 
 pub determined : {j : Judged} {b b₁ b₂ : List ℕ} {r₁ r₂ : WriteAnswer} → Wrote j b b₁ r₁ → Wrote j b b₂ r₂ → (r₁ ≡ r₂) × (b₁ ≡ b₂)
 determined p q = (p .answer ∙ sym (q .answer), p .buffer ∙ sym (q .buffer))

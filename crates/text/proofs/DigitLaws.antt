@@ -2,6 +2,7 @@
 --     length-digits, length-decimal    k digits are k bytes
 --     digit-small, all-digits          each is below ten
 --     digits-snoc                      the last digit apart: by quotient and remainder, as a recursive writer goes
+--     pair-low, four-pairs, nine-pairs two digits at a time
 --     value-digits, value-below        read back they stand for n mod 10 ^ k: for n itself below it
 --     digits-injective                 two numbers below 10 ^ k with the same k digits are one
 --     digits-value                     digits stand for a number whose digits they are
@@ -58,6 +59,21 @@ two n h =
     let hi : n / 10 % 10 ≡ n / 10 = omega arith in
     let lo : n / 1 % 10 ≡ n % 10 = omega arith in
     rw (hi, lo)
+
+-- the two low digits are those of what is below 100
+pub pair-low : (n : ℕ) → decimal 2 (n % 100) ≡ decimal 2 n
+pair-low n =
+    let hi : n % 100 / 10 % 10 ≡ n / 10 % 10 = omega arith in
+    let lo : n % 100 / 1 % 10 ≡ n / 1 % 10 = omega arith in
+    rw (hi, lo)
+
+-- four and nine digits, two at a time
+pub four-pairs : (n : ℕ) → decimal 4 n ≡ decimal 2 (n / 100) ++ decimal 2 n
+four-pairs n = simp div-div-eq-div-mul
+
+pub nine-pairs : (n : ℕ)
+    → decimal 9 n ≡ decimal 2 (n / 10000000) ++ decimal 2 (n / 100000) ++ decimal 2 (n / 1000) ++ decimal 2 (n / 10) ++ ((48 + n % 10) ∷ [])
+nine-pairs n = let e : n / 1 % 10 ≡ n % 10 = omega arith in simp (div-div-eq-div-mul, e)
 
 -- one digit more of a span
 pub span-more : (f i : ℕ) (ds : List ℕ) → f ≤ i → i < length ds → shown (slice f i ds) ++ ((48 + getD ds i 0) ∷ []) ≡ shown (slice f (i + 1) ds)

@@ -46,6 +46,35 @@ pub fn write_padded_u8(buf: &mut [u8], at: usize, n: u8) -> usize
     put_byte(buf, m, 48 + n % 10)
 }
 
+// The two low digits of a number.
+pub fn put_pair(buf: &mut [u8], at: usize, n: u32) -> usize
+    requires { ⌜ Room (now buf) at (decimal 2 n) ⌝ }
+    ensures { λ r. ⌜ Put (now (buf .entry)) at (decimal 2 n) (now (buf .exit)) r ⌝ }
+{
+    write_padded_u8(buf, at, (n % 100) as u8)
+}
+
+// The four low digits of a number.
+pub fn put_four(buf: &mut [u8], at: usize, n: u32) -> usize
+    requires { ⌜ Room (now buf) at (decimal 4 n) ⌝ }
+    ensures { λ r. ⌜ Put (now (buf .entry)) at (decimal 4 n) (now (buf .exit)) r ⌝ }
+{
+    let m = put_pair(buf, at, n / 100);
+    put_pair(buf, m, n)
+}
+
+// The nine low digits of a number.
+pub fn put_nine(buf: &mut [u8], at: usize, n: u32) -> usize
+    requires { ⌜ Room (now buf) at (decimal 9 n) ⌝ }
+    ensures { λ r. ⌜ Put (now (buf .entry)) at (decimal 9 n) (now (buf .exit)) r ⌝ }
+{
+    let a = put_pair(buf, at, n / 10000000);
+    let b = put_pair(buf, a, n / 100000);
+    let c = put_pair(buf, b, n / 1000);
+    let d = put_pair(buf, c, n / 10);
+    put_byte(buf, d, 48 + (n % 10) as u8)
+}
+
 // A text that the caller lends.
 pub fn put_bytes(buf: &mut [u8], at: usize, s: &[u8]) -> usize
     requires { ⌜ Room (now buf) at (now s) ⌝ }

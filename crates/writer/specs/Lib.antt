@@ -1,3 +1,4 @@
 -- The definitions that the contracts of this crate, and the crates above, cite.
 pub mod Partial
 pub mod Stamp
+pub mod Usual

@@ -236,7 +236,7 @@ fn names_ok(lent: &[u8], s: Stamp) -> bool
     zone_part_ok(lent, zone) & calendar_part_ok(lent, calendar)
 }
 
-fn is_shown(show: DisplayOffset) -> bool
+pub fn is_shown(show: DisplayOffset) -> bool
     ensures { λ r. ⌜ r ≡ shows show ⌝ }
 {
     match show {
@@ -283,8 +283,8 @@ pub fn stamp_length(lent: &[u8], s: Stamp) -> LengthAnswer
     LengthAnswer::Refused(text::refusal::BAD_FIELD)
 }
 
-// Writes a stamp's text to the front of a buffer; refusals 2, 3, 4, then 1.
-pub fn write_stamp(buf: &mut [u8], lent: &[u8], s: Stamp) -> WriteAnswer
+// Any stamp, its length first.
+fn write_any(buf: &mut [u8], lent: &[u8], s: Stamp) -> WriteAnswer
     ensures { λ r. ⌜ Wrote (stampJudged (now (lent .entry)) s) (now (buf .entry)) (now (buf .exit)) r ⌝ }
 {
     match text::fit(stamp_length(lent, s), buf.len()) {
@@ -293,5 +293,26 @@ pub fn write_stamp(buf: &mut [u8], lent: &[u8], s: Stamp) -> WriteAnswer
             put_stamp(buf, 0, lent, s);
             WriteAnswer::Written(n)
         }
+    }
+}
+
+// Writes a stamp's text to the front of a buffer; refusals 2, 3, 4, then 1. A stamp as most are, whose text has at most 30 bytes, is written at once.
+pub fn write_stamp(buf: &mut [u8], lent: &[u8], s: Stamp) -> WriteAnswer
+    ensures { λ r. ⌜ Wrote (stampJudged (now (lent .entry)) s) (now (buf .entry)) (now (buf .exit)) r ⌝ }
+{
+    if buf.len() < 30 {
+        return write_any(buf, lent, s);
+    }
+    match super::usual::usual_of(s) {
+        super::usual::Usual::Is {
+            year,
+            date,
+            time,
+            zulu,
+        } => {
+            let n = super::usual::put_usual(buf, year, date, time, zulu);
+            WriteAnswer::Written(n)
+        }
+        super::usual::Usual::Other => write_any(buf, lent, s),
     }
 }

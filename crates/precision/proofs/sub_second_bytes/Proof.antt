@@ -1,20 +1,15 @@
--- `precision::sub_second_bytes` meets its contract: the digits and the count are those of the text. Assumes nothing.
-use Rattle.precision.proofs.SubSecond.{shown-as, shown-span}
+-- `precision::sub_second_bytes` meets its contract. Assumes nothing.
+use borrow.Author.Needs.{needs}
+use mathlib.Core.Path.{refl}
+use lib.Dec.{lit≤}
 use Rattle.precision.proofs.sub_second_bytes.Statement.{statement}
 use Rattle.precision.proofs.sub_second_bytes.Tie as tie
 
-fraction-bytes-requires : tie.Need-fraction-bytes-requires
-fraction-bytes-requires c κs =
-    let u = c .before .before in
-    let s = u .before in
-    shown-span (s .args .p) (s .args .nanosecond) (u .u32-to-digits .ensures) (c .digits-shown .ensures) (s .pre)
-
 returns : tie.Need-returns
-returns c =
-    let d = c .before in
-    let u = d .before .before in
-    let a = u .before .args in
-    rw (shown-as (a .p) (a .nanosecond) (u .u32-to-digits .ensures) (d .digits-shown .ensures)) (c .fraction-bytes .ensures)
+returns c = rw (c .before .shows-nine .ensures (c .if1 .taken)) (record { count = refl; most = lit≤ tt })
+
+returns-2 : tie.Need-returns-2
+returns-2 c = rw (c .before .shows-none .ensures (c .if2 .taken)) (record { count = refl; most = lit≤ tt })
 
 pub sub-second-bytes-spec : {M : Type 1} → statement M
-sub-second-bytes-spec = tie.close (tie.spec (λ c κs. tt) (λ c κs. tt) fraction-bytes-requires returns)
+sub-second-bytes-spec = tie.close (tie.spec (λ c κs. tt) returns (λ c κs. tt) returns-2 (λ c κs. search needs) (λ c. search needs))
