@@ -14,7 +14,7 @@ pub fn there_and_back(line: &[u8], at: usize, got: &mut [u8], paper: &mut [u8]) 
     let read = stamp_at(line, at, &mut texts);
     let value = read.value;
     let lent = between(&texts, 0, read.used);
-    let shown = stamp::there_and_back(paper, lent, value);
+    let shown = round_trip::there_and_back(paper, lent, value);
     let len = add_said(got, 0, shown);
     answered(read.ok, len, read.next)
 }
@@ -23,6 +23,6 @@ pub fn there_and_back(line: &[u8], at: usize, got: &mut [u8], paper: &mut [u8]) 
 pub fn recognised(line: &[u8], at: usize, got: &mut [u8]) -> Judged {
     let mut texts = [0u8; LENT];
     let text = hex_at(line, at, &mut texts);
-    let len = add_flag(got, 0, stamp::recognise(between(&texts, 0, text.len)));
+    let len = add_flag(got, 0, recogniser::recognise(between(&texts, 0, text.len)));
     answered(text.ok, len, text.next)
 }
