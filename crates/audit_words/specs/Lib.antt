@@ -1,0 +1,3 @@
+-- The definitions that the contracts of the audit's pieces cite.
+-- Assumes nothing: it declares the modules.
+pub mod Within
