@@ -72,7 +72,7 @@ pub fn shown_month_day(d: MonthDayRead) -> DatePart
 }
 
 // Second 60 is read as 59.
-fn second_of(s: u8) -> u8
+pub fn second_of(s: u8) -> u8
     ensures { λ r. ⌜ r ≡ second s ⌝ }
 {
     if s < 60 { s } else { 59 }

@@ -15,7 +15,7 @@ use Rattle.tail_syntax.specs.Read.{marked, inside, ends, zoneOf, zone, noteOf, 
 use Rattle.grammar.specs.Read.{clockAt, afterClock, clockIf, afterIf, stampFrom, stamp, stampGood, timeFrom, timeText, timeTextGood, yearMonthText, yearMonthGood, monthDayText, monthDayTextGood}
 use Rattle.meaning.specs.Shown.{shown}
 use Rattle.meaning.specs.Verdict.{verdict, longFraction, otherCalendar, stampFaults, timeFaults, yearMonthFaults, monthDayFaults}
-use Rattle.reader.specs.Kinds.{stampAnswer, readStamp, timeAnswer, readTime, yearMonthAnswer, readYearMonth, monthDayAnswer, readMonthDay}
+use Rattle.kinds.specs.Kinds.{stampAnswer, readStamp, timeAnswer, readTime, yearMonthAnswer, readYearMonth, monthDayAnswer, readMonthDay}
 use Rattle.reader.specs.Goals.{readPlain, readGoal}
 
 -- 0 if the text is accepted for the goal, else its refusal's number

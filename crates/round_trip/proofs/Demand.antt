@@ -9,8 +9,8 @@ use mathlib.Core.List.{List, _++_}
 use Rattle.record.specs.declared.stamp.Stamp.{Stamp}
 use Rattle.writer.specs.Stamp.{stampText}
 use Rattle.meaning.specs.Said.{told, says}
-use Rattle.reader.specs.Kinds.{readStamp}
-use Rattle.reader.proofs.Meaning.{stamp-meaning}
+use Rattle.kinds.specs.Kinds.{readStamp}
+use Rattle.kinds.proofs.Meaning.{stamp-meaning}
 use Rattle.round_trip.specs.Shown.{shownRecord, Line}
 use Rattle.round_trip.specs.Canon.{canon}
 use Rattle.round_trip.proofs.Canonical.{canonical, dated}

@@ -11,7 +11,7 @@ use Rattle.record.specs.declared.shown.Reading.{Reading}
 use Rattle.record.specs.declared.shown.Reading.the-variants as reading
 use Rattle.writer.specs.Stamp.{stampText, stampJudged}
 use Rattle.meaning.specs.Said.{says, told}
-use Rattle.reader.specs.Kinds.{readStamp}
+use Rattle.kinds.specs.Kinds.{readStamp}
 use Rattle.round_trip.specs.Shown.{shownRecord, Line}
 
 -- from the writer's answer and the buffer afterwards: what the bytes written are read as, or the writer's refusal

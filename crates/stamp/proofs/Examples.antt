@@ -55,7 +55,7 @@ use Rattle.tail_syntax.specs.Read.{marked, inside, ends, zoneOf, zone as zone-a
 use Rattle.grammar.specs.Read.{clockAt, afterClock, clockIf, afterIf, stampFrom, stamp, stampGood}
 use Rattle.meaning.specs.Shown.{shown}
 use Rattle.meaning.specs.Verdict.{verdict, longFraction, stampFaults}
-use Rattle.reader.specs.Kinds.{stampAnswer, readStamp}
+use Rattle.kinds.specs.Kinds.{stampAnswer, readStamp}
 use Rattle.reader.specs.Goals.{readGoal}
 use Rattle.recogniser.specs.Plain.{plainClock, plain, recognises}
 

@@ -2,7 +2,7 @@
 pub use Rattle.text.proofs.Answers.{determined}
 pub use Rattle.writer.proofs.Longest.{longest, longest-has}
 pub use Rattle.grammar.proofs.Exact.{stamp-exact, time-text-exact, year-month-text-exact, month-day-text-exact}
-pub use Rattle.reader.proofs.Meaning.{stamp-meaning, time-text-meaning, year-month-meaning, month-day-meaning}
+pub use Rattle.kinds.proofs.Meaning.{stamp-meaning, time-text-meaning, year-month-meaning, month-day-meaning}
 pub use Rattle.round_trip.proofs.Canonical.{canonical}
 pub use Rattle.round_trip.proofs.Demand.{round-trip, one-line-one-event}
 pub use Rattle.round_trip.proofs.Back.{there-and-back}

@@ -14,20 +14,9 @@ use borrow.Author.Needs.{needs}
 use Rattle.names.specs.Grammar.{digitByte}
 use Rattle.time_syntax.specs.Read.{digitsFrom, fractionOf}
 use Rattle.time_syntax.proofs.Bytes.{digit-range}
+use Rattle.time_syntax.proofs.FractionLaws.{one, stop, end}
 use Rattle.time_syntax.proofs.fraction.fraction_of.Statement.{statement}
 use Rattle.time_syntax.proofs.fraction.fraction_of.Tie as tie
-
--- one turn of the definition at place i: a digit, another byte, the end
-module _ (p : ℕ) (t : List ℕ) (i w v : ℕ) where
-  one : i < length t → digitByte (getD t i 0) ≡ true
-      → digitsFrom p (drop i t) i w v ≡ digitsFrom p (drop (i + 1) t) (i + 1) (w / 10) (v + (getD t i 0 - 48) * w)
-  one h e = rw (drop-cons t i 0, add-one, e)
-
-  stop : i < length t → digitByte (getD t i 0) ≡ false → digitsFrom p (drop i t) i w v ≡ record { point = p; nanos = v; digits = i }
-  stop h e = rw (drop-cons t i 0, e)
-
-  end : length t ≤ i → digitsFrom p (drop i t) i w v ≡ record { point = p; nanos = v; digits = i }
-  end h = rw (drop-of-length-le t h)
 
 abbrev Inv-loop : tie.InvT-loop
 Inv-loop point t i₀ weight₀ nanos₀ i weight nanos =
@@ -74,19 +63,19 @@ loop-less c = search needs
 loop-again : tie.Need-loop-again Inv-loop μ-loop
 loop-again c =
     let l = c .before .before .before .before .loop in
-    (search needs, omega (arith, small c), sym (one _ _ (l .i) (l .weight) (l .nanos) (c .before .before .before .loop-test .taken) (is-digit c)) ∙ l .inv .2)
+    (search needs, omega (arith, small c), sym (one _ _ (l .i) (l .i) (l .weight) (l .nanos) (c .before .before .before .loop-test .taken) (is-digit c)) ∙ l .inv .2)
 
 returns : tie.Need-returns Inv-loop μ-loop
 unfolding fractionOf
 returns c =
     let l = c .before .before .before .before .loop in
-    sym (stop _ _ (l .i) (l .weight) (l .nanos) (c .before .before .before .loop-test .taken) (sym (c .before .is-digit .ensures) ∙ c .if1 .left)) ∙ l .inv .2
+    sym (stop _ _ (l .i) (l .i) (l .weight) (l .nanos) (c .before .before .before .loop-test .taken) (sym (c .before .is-digit .ensures) ∙ c .if1 .left)) ∙ l .inv .2
 
 returns-2 : tie.Need-returns-2 Inv-loop μ-loop
 unfolding fractionOf
 returns-2 c =
     let l = c .before .loop in
-    sym (end _ _ (l .i) (l .weight) (l .nanos) (c .loop-test .left)) ∙ l .inv .2
+    sym (end _ _ (l .i) (l .i) (l .weight) (l .nanos) (c .loop-test .left)) ∙ l .inv .2
 
 pub fraction-of-spec : {M : Type 1} → statement M
 fraction-of-spec =
