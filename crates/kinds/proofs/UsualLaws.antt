@@ -1,26 +1,26 @@
 -- Stamp texts as most are, by the places of their bytes: what is read there is what the grammar reads. Assumes nothing.
---     low-digit, pair-is          the digits at a place
---     step, nine-digits           the digits of a fraction, one more, and nine
---     ends-none, ends-some, ends-nine, end-is    where the fraction ends
---     usual-day, usual-timed      the answers
-use Prim.Native.Nat.{ℕ, zero, suc, _+_, _*_, _-_, _/_, _%_, _^_, _≤_, _<_}
+--     low-digit, pair-is                         the digits at a place
+--     step, nine-digits                          the digits of a fraction, one more, and nine
+--     ends-none, ends-some, ends-nine            what stands up to where the fraction ends
+--     ends-z, ends-offset, ends-text, end-is     where it may end
+--     utc-none, utc-zulu, utc-offset, ended      what follows it
+--     usual-day, usual-timed                     the answers
+use Prim.Native.Nat.{ℕ, zero, suc, _+_, _*_, _-_, _/_, _%_, _≤_, _<_}
 use native.Mathlib.Omega.{arith}
 use native.Mathlib.Nat.{add-zero, add-mul, mul-assoc, mul-le-mul-left, mul-le-mul-right, pow-suc}
 use native.Mathlib.Numerals.{add-one}
-use mathlib.Core.Bool.{Bool, true, false, cond, not, _&&_, _||_}
-use mathlib.Core.Path.{_≡_, refl, sym, ap, _∙_}
+use mathlib.Core.Bool.{Bool, true, false, cond, not, _&&_, _||_, or-true}
+use mathlib.Core.Path.{_≡_, refl, ap, _∙_}
 use mathlib.Core.List.{List, [], _∷_, _++_}
 use lib.Dec.{ltb, leb, eqb}
 use lib.IntN.{pos}
 use lib.ListN.{length, getD, drop, drop-of-length-le}
-use lib.Seq.{drop-drop, drop-length, getD-drop, drop-cons}
+use lib.Seq.{drop-drop, getD-drop}
 use borrow.Author.Tests.{lt-ltb, le-ltb, le-leb, lt-leb, ne-eqb, ltb-true, leb-true, eqb-true, ltb-false}
 use Rattle.text.specs.Walk.{front}
-use Rattle.text.specs.Put.{mark}
-use Rattle.text.specs.Digits.{decimal}
 use Rattle.text.proofs.DigitLaws.{two, ten-pos}
 use Rattle.text.proofs.Answers.{both}
-use Rattle.names.specs.Grammar.{digitByte}
+use Rattle.names.specs.Grammar.{digitByte, signByte}
 use Rattle.names.specs.Field.{digit, pairOf, field}
 use Rattle.names.proofs.FieldLaws.{field-text, field-sound}
 use Rattle.iso.specs.Gregorian.{validDate}
@@ -29,11 +29,10 @@ use Rattle.record.specs.declared.shown.Shown.{Shown}
 use Rattle.record.specs.declared.shown.ClockPart.the-variants as clock
 use Rattle.record.specs.declared.shown.ShownOffset.the-variants as offset
 use Rattle.date_syntax.specs.declared.DateRead.{DateRead}
-use Rattle.date_syntax.specs.Read.{marked, plain, year, date, afterDate}
+use Rattle.date_syntax.specs.Read.{marked, plain, year, date}
 use Rattle.time_syntax.specs.declared.TimeRead.{TimeRead}
 use Rattle.time_syntax.specs.declared.UtcRead.{UtcRead}
-use Rattle.time_syntax.specs.declared.fraction.Fraction.{Fraction}
-use Rattle.time_syntax.specs.Read.{digitsFrom, fractionOf, pointByte, fractionAt, secsAt, timeOf, time, past, utc, afterUtc}
+use Rattle.time_syntax.specs.Read.{digitsFrom, fractionOf, pointByte, fractionAt, secsAt, timeOf, time, past, zuluByte, utc, utcGood, afterUtc}
 use Rattle.time_syntax.proofs.Bytes.{one-of}
 use Rattle.time_syntax.proofs.FractionLaws.{one, pair-step}
 use Rattle.tail_syntax.specs.declared.zone.ZoneRead.{ZoneRead}
@@ -41,10 +40,10 @@ use Rattle.tail_syntax.specs.declared.tail.TailRead.{TailRead}
 use Rattle.tail_syntax.specs.Read.{zone, zoneOf, none, notes, tail}
 use Rattle.grammar.specs.declared.StampRead.{StampRead}
 use Rattle.grammar.specs.Read.{stamp, stampFrom, stampGood, clockIf, afterIf, clockAt, afterClock}
-use Rattle.meaning.specs.Shown.{shown, shownDate}
-use Rattle.meaning.specs.Verdict.{verdict, stampFaults, longFraction}
+use Rattle.meaning.specs.Shown.{shown, shownDate, shownUtc}
+use Rattle.meaning.specs.Verdict.{verdict, stampFaults, utcDigits, longFraction}
 use Rattle.kinds.specs.Kinds.{answer, stampAnswer}
-use Rattle.kinds.specs.Usual.{dateFits, clockFits, unit, endByte, Tells, Ends, EndIs, clockShown, offsetShown, usualAnswer}
+use Rattle.kinds.specs.Usual.{dateFits, clockFits, unit, endByte, Tells, Ends, Rest, EndIs, offsetFits, clockShown, usualAnswer}
 
 -- ---- digits
 
@@ -122,12 +121,16 @@ module _ (l : List ℕ)
 
 -- ---- the fraction
 
-end-byte : (l : List ℕ) → endByte (front l) ≡ true → (P : ℕ → Type 0) → P 90 → P 0 → P (front l)
-end-byte l e P p q = one-of (front l) 90 0 e P p q
+end-byte : (b : ℕ) → endByte b ≡ true → (P : ℕ → Type 0) → P 90 → P 0 → P 43 → P 45 → P b
+end-byte b e P z n p m = go (eqb b 90 || eqb b 0) refl e
+  where
+    go : (t : Bool) → (eqb b 90 || eqb b 0) ≡ t → (t || signByte b) ≡ true → P b
+    go true f e = one-of b 90 0 f P z n
+    go false f e = one-of b 43 45 e P p m
 
 stops : (p : ℕ) (l : List ℕ) (n w v : ℕ) → endByte (front l) ≡ true → digitsFrom p l n w v ≡ record { point = p; nanos = v; digits = n }
 stops p [] n w v e = refl
-stops p (b ∷ l) n w v e = rw (end-byte (b ∷ l) e (λ c. digitByte c ≡ false) refl refl)
+stops p (b ∷ l) n w v e = rw (end-byte b e (λ c. digitByte c ≡ false) refl refl refl refl)
 
 -- a digit at place i, after n others
 module _ (l : List ℕ) (i n w v d : ℕ) (e : digit (getD l i 0) ≡ cond (ltb d 10) d 10) (h : d < 10) where
@@ -189,7 +192,7 @@ nine-digits l a b c d e ea eb ec ed ee n ha hb hc hd he =
 pub ends-none : (l : List ℕ) (e : ℕ) → e ≡ 19 → endByte (front (drop e l)) ≡ true → Ends l e 0
 unfolding fractionAt past
 ends-none l e i end =
-    let p = end-byte (drop 19 l) (rw i at end) (λ b. pointByte b ≡ false) refl refl in
+    let p = end-byte (front (drop 19 l)) (rw i at end) (λ b. pointByte b ≡ false) refl refl refl refl in
     record {
       nanos = rw p refl;
       some = rw p refl;
@@ -214,24 +217,112 @@ ends-some l e v point least most end tells =
 pub ends-nine : (l : List ℕ) (e v : ℕ) → getD l 19 0 ≡ 46 → e ≡ 29 → endByte (front (drop e l)) ≡ true → Tells l 29 v → Ends l e v
 ends-nine l e v point i end tells = rw i (ends-some l 29 v point (omega arith) (omega arith) (rw i at end) tells)
 
-pub before-z : (l : List ℕ) → 19 < length l → getD l (length l - 1) 0 ≡ 90 → EndIs l (length l - 1)
-before-z l h e =
-    let s : suc (length l - 1) ≡ length l = omega arith in
-    record {
-      least = omega arith;
-      most = omega arith;
-      rest = rw (lt-ltb (length l - 1) (length l) (omega arith), drop-cons l (length l - 1) 0 (omega arith), e, s, drop-length l);
-    }
+-- ---- what follows it
 
-pub with-text : (l : List ℕ) → 19 ≤ length l → EndIs l (length l)
-with-text l h = record { least = h; most = omega arith; rest = rw (le-ltb (length l) (length l) (omega arith), drop-length l) }
+pub ends-z : (l : List ℕ) → 19 ≤ length l - 1 → getD l (length l - 1) 0 ≡ 90 → EndIs l (length l - 1)
+ends-z l h e = let k : length l - (length l - 1) ≡ 1 = omega arith in record { least = h; most = omega arith; rest = rw k e }
+
+pub ends-offset : (l : List ℕ) → 24 < length l → signByte (getD l (length l - 6) 0) ≡ true → getD l (length l - 3) 0 ≡ 58 → EndIs l (length l - 6)
+ends-offset l h e f =
+    let k : length l - (length l - 6) ≡ 6 = omega arith in
+    let i : length l - 6 + 3 ≡ length l - 3 = omega arith in
+    record { least = omega arith; most = omega arith; rest = rw (k, i) (refl, e, f) }
+
+pub ends-text : (l : List ℕ) → 19 ≤ length l → EndIs l (length l)
+ends-text l h = let k : length l - length l ≡ 0 = omega arith in record { least = h; most = omega arith; rest = rw k tt }
 
 pub end-is : (l : List ℕ) (e : ℕ) → EndIs l e → endByte (front (drop e l)) ≡ true
-end-is l e h = rw (h .rest) (go (ltb e (length l)))
+end-is l e h = go (length l - e) refl (h .rest)
   where
-    go : (z : Bool) → endByte (front (mark z 90)) ≡ true
-    go true = refl
-    go false = refl
+    go : (k : ℕ) → length l - e ≡ k → Rest l e k → endByte (front (drop e l)) ≡ true
+    go zero i r = rw (drop-of-length-le l {i = e} (omega arith)) refl
+    go (suc zero) i r = rw (front-drop l e, r) refl
+    go (suc (suc k)) i r = rw (front-drop l e, r .1) (or-true (eqb (getD l e 0) 90 || eqb (getD l e 0) 0))
+
+-- nothing, `Z`, and an offset are read as what they are
+pub utc-none : (l : List ℕ) (e : ℕ) → length l - e ≡ 0 → utc (drop e l) ≡ UtcRead.Absent
+unfolding utc
+utc-none l e i = rw (drop-of-length-le l {i = e} (omega arith)) refl
+
+pub utc-zulu : (l : List ℕ) (e : ℕ) → getD l e 0 ≡ 90 → utc (drop e l) ≡ UtcRead.Z 90
+unfolding utc
+utc-zulu l e f = rw (front-drop l e, f) refl
+
+module _ (l : List ℕ) (e : ℕ) (six : length l - e ≡ 6) (sign : signByte (getD l e 0) ≡ true) (colon : getD l (e + 3) 0 ≡ 58) (h : field 0 99 (drop (e + 1) l) ≤ 23)
+    (m : field 0 99 (drop (e + 4) l) ≤ 59) where
+  short-time : time (drop (e + 1) l) ≡ TimeRead.Is (field 0 99 (drop (e + 1) l)) (field 0 99 (drop (e + 4) l)) false 0 0 0 0
+  unfolding time timeOf secsAt
+  short-time =
+      let a : e + 1 + 2 ≡ e + 3 = omega arith in
+      let b : e + 1 + 3 ≡ e + 4 = omega arith in
+      let i = narrow 0 23 (drop (e + 1) l) (omega arith) (omega arith) h in
+      let j = narrow 0 59 (drop (e + 4) l) (omega arith) (omega arith) m in
+      rw (
+        drop-drop 2 (e + 1) l,
+        drop-drop 3 (e + 1) l,
+        drop-drop 5 (e + 1) l,
+        a,
+        b,
+        front-drop l (e + 3),
+        colon,
+        drop-of-length-le l {i = e + 1 + 5} (omega arith),
+        i,
+        j,
+        lt-ltb (field 0 99 (drop (e + 1) l)) 100 (omega arith),
+        lt-ltb (field 0 99 (drop (e + 4) l)) 100 (omega arith),
+      )
+
+  pub utc-offset : utc (drop e l)
+      ≡ UtcRead.Offset (record { negative = eqb (getD l e 0) 45; hour = field 0 99 (drop (e + 1) l); minute = field 0 99 (drop (e + 4) l); seconds = false; second = 0; point = 0; nanos = 0; digits = 0 })
+  unfolding utc
+  utc-offset =
+      let z = one-of (getD l e 0) 43 45 sign (λ b. zuluByte b ≡ false) refl refl in
+      rw (front-drop l e, z, sign, drop-drop 1 e l, short-time)
+
+pub zulu-is : (l : List ℕ) (e : ℕ) → EndIs l e → length l - e ≡ 1 → getD l e 0 ≡ 90
+zulu-is l e h i = rw i at (h .rest)
+
+pub offset-is : (l : List ℕ) (e : ℕ) → EndIs l e → (length l - e ≡ 0 → ⊥) → (length l - e ≡ 1 → ⊥)
+    → (length l - e ≡ 6) × (signByte (getD l e 0) ≡ true) × (getD l (e + 3) 0 ≡ 58)
+offset-is l e h n o = go (length l - e) refl (h .rest)
+  where
+    go : (k : ℕ) → length l - e ≡ k → Rest l e k → (length l - e ≡ 6) × (signByte (getD l e 0) ≡ true) × (getD l (e + 3) 0 ≡ 58)
+    go zero i r = absurd (n i)
+    go (suc zero) i r = absurd (o i)
+    go (suc (suc k)) i r = (omega (arith, r .0), r .1, r .2)
+
+pub offset-digits : (l : List ℕ) (e : ℕ) → offsetFits l e ≡ true → length l - e ≡ 6 → (field 0 99 (drop (e + 1) l) ≤ 23) × (field 0 99 (drop (e + 4) l) ≤ 59)
+unfolding offsetFits
+offset-digits l e f i =
+    let g = both (leb (field 0 99 (drop (e + 1) l)) 23) (leb (field 0 99 (drop (e + 4) l)) 59) (rw (le-ltb (length l - e) 6 (omega arith)) at f) in
+    (leb-true _ _ (g .0), leb-true _ _ (g .1))
+
+-- and nothing follows
+pub record Ended (l : List ℕ) (e : ℕ) : Type 0 where
+  pub good : utcGood (utc (drop e l)) ≡ true
+  pub few : ltb 9 (utcDigits (utc (drop e l))) ≡ false
+  pub after : afterUtc (utc (drop e l)) (drop e l) ≡ []
+
+pub ended : (l : List ℕ) (e : ℕ) → EndIs l e → offsetFits l e ≡ true → Ended l e
+unfolding past
+ended l e h f = go (length l - e) refl (h .rest)
+  where
+    go : (k : ℕ) → length l - e ≡ k → Rest l e k → Ended l e
+    go zero i r =
+        let u = utc-none l e i in
+        record { good = rw u refl; few = rw u refl; after = rw u (drop-of-length-le l {i = e} (omega arith)) }
+    go (suc zero) i r =
+        let u = utc-zulu l e r in
+        record { good = rw u refl; few = rw u refl; after = rw u (drop-drop 1 e l ∙ drop-of-length-le l {i = e + 1} (omega arith)) }
+    go (suc (suc k)) i r =
+        let six : length l - e ≡ 6 = omega (arith, r .0) in
+        let g = offset-digits l e f six in
+        let u = utc-offset l e six (r .1) (r .2) (g .0) (g .1) in
+        record {
+          good = rw u refl;
+          few = rw u refl;
+          after = rw u (rw (drop-drop 1 e l, drop-drop 5 (e + 1) l) (drop-of-length-le l {i = e + 1 + 5} (omega arith)));
+        }
 
 -- ---- the time
 
@@ -281,30 +372,25 @@ judged : (valid : Bool) (s : Shown) → answer (cond (not valid) 11 0) s ≡ con
 judged true s = refl
 judged false s = refl
 
--- what is kept of a time that ends in `Z` or with the text
-abbrev zulu : Bool → UtcRead
-zulu z = cond z (UtcRead.Z 90) UtcRead.Absent
+-- what is kept of a text that ends with its UTC part
+abbrev timed : DateRead → ℕ → ℕ → ℕ → ℕ → ℕ → ℕ → UtcRead → StampRead
+timed d h n s p v k u =
+    record { date = d; sep = 84; clock = record { timed = true; time = TimeRead.Is h n true s p v k; utc = u }; tail = TailRead.Is ZoneRead.Absent none }
 
-abbrev timed : DateRead → ℕ → ℕ → ℕ → ℕ → ℕ → ℕ → Bool → StampRead
-timed d h n s p v k z =
-    record { date = d; sep = 84; clock = record { timed = true; time = TimeRead.Is h n true s p v k; utc = zulu z }; tail = TailRead.Is ZoneRead.Absent none }
+no-tail : tail [] ≡ TailRead.Is ZoneRead.Absent none
+unfolding tail zone zoneOf notes
+no-tail = refl
 
-utc-read : (z : Bool) → (utc (mark z 90) ≡ zulu z) × (tail (afterUtc (zulu z) (mark z 90)) ≡ TailRead.Is ZoneRead.Absent none)
-unfolding utc tail zone zoneOf notes
-utc-read true = (refl, refl)
-utc-read false = (refl, refl)
-
-timed-read : (d : DateRead) (m : List ℕ) (z : Bool) {h n s p v k : ℕ} → front m ≡ 84 → time (drop 1 m) ≡ TimeRead.Is h n true s p v k → past true p k (drop 1 m) ≡ mark z 90
-    → stampFrom d m ≡ timed d h n s p v k z
+timed-read : (d : DateRead) (m r : List ℕ) {h n s p v k : ℕ} → front m ≡ 84 → time (drop 1 m) ≡ TimeRead.Is h n true s p v k → past true p k (drop 1 m) ≡ r
+    → afterUtc (utc r) r ≡ [] → stampFrom d m ≡ timed d h n s p v k (utc r)
 unfolding stampFrom clockIf afterIf clockAt afterClock
-timed-read d m z e t a = let u = utc-read z in rw (e, t, a, u .0, u .1) refl
+timed-read d m r e t a f = rw (e, t, a, f, no-tail) refl
 
-timed-answer : (i y m d h n s p v k : ℕ) (z : Bool) → ltb 9 k ≡ false
-    → let w = timed (DateRead.Is false y false m d) h n s p v k z in
-    answer (verdict (stampFaults w)) (shown i (shownDate (w .date)) (w .clock) (w .tail)) ≡ usualAnswer y m d (clockShown h n s v) (offsetShown z)
+timed-answer : (i y m d h n s p v k : ℕ) (u : UtcRead) → ltb 9 k ≡ false → utcGood u ≡ true → ltb 9 (utcDigits u) ≡ false
+    → let w = timed (DateRead.Is false y false m d) h n s p v k u in
+    answer (verdict (stampFaults w)) (shown i (shownDate (w .date)) (w .clock) (w .tail)) ≡ usualAnswer y m d (clockShown h n s v) (shownUtc u)
 unfolding stampFaults stampGood longFraction verdict shown
-timed-answer i y m d h n s p v k true e = rw e (judged (validDate (pos y) m d) _)
-timed-answer i y m d h n s p v k false e = rw e (judged (validDate (pos y) m d) _)
+timed-answer i y m d h n s p v k u e f g = rw (e, f, g) (judged (validDate (pos y) m d) _)
 
 module _ (l : List ℕ)
     (fits : dateFits (field 0 99 l) (field 0 99 (drop 2 l)) (getD l 4 0) (field 0 99 (drop 5 l)) (getD l 7 0) (field 0 99 (drop 8 l)) ≡ true) where
@@ -315,19 +401,19 @@ module _ (l : List ℕ)
 
   clock-answer : (e v : ℕ)
       → clockFits (getD l 10 0) (field 0 99 (drop 11 l)) (getD l 13 0) (field 0 99 (drop 14 l)) (getD l 16 0) (field 0 99 (drop 17 l)) ≡ true
-      → Ends l e v → EndIs l e
+      → Ends l e v → Ended l e
       → stampAnswer l
       ≡ usualAnswer (field 0 99 l * 100 + field 0 99 (drop 2 l)) (field 0 99 (drop 5 l)) (field 0 99 (drop 8 l))
-      (clockShown (field 0 99 (drop 11 l)) (field 0 99 (drop 14 l)) (field 0 99 (drop 17 l)) v) (offsetShown (ltb e (length l)))
+      (clockShown (field 0 99 (drop 11 l)) (field 0 99 (drop 14 l)) (field 0 99 (drop 17 l)) v) (shownUtc (utc (drop e l)))
   unfolding stampAnswer stamp
   clock-answer e v fits-clock ends end =
       let h = clock-parts (getD l 10 0) (field 0 99 (drop 11 l)) (getD l 13 0) (field 0 99 (drop 14 l)) (getD l 16 0) (field 0 99 (drop 17 l)) fits-clock in
       rw (
         fits-date l fits,
-        timed-read _ (drop 10 l) (ltb e (length l)) (front-drop l 10 ∙ h .0) (ap time (drop-drop 1 10 l) ∙ fits-time l fits-clock ends)
-            (ap (past true (fractionAt (drop 19 l) .point) (fractionAt (drop 19 l) .digits)) (drop-drop 1 10 l) ∙ ends .after ∙ end .rest),
+        timed-read _ (drop 10 l) (drop e l) (front-drop l 10 ∙ h .0) (ap time (drop-drop 1 10 l) ∙ fits-time l fits-clock ends)
+            (ap (past true (fractionAt (drop 19 l) .point) (fractionAt (drop 19 l) .digits)) (drop-drop 1 10 l) ∙ ends .after) (end .after),
       )
-      (timed-answer (length l) _ _ _ _ _ _ _ _ _ (ltb e (length l)) (ends .few))
+      (timed-answer (length l) _ _ _ _ _ _ _ _ _ (utc (drop e l)) (ends .few) (end .good) (end .few))
 
 -- as the parts were read
 module _ (l : List ℕ) {c y m d : ℕ} (ec : c ≡ field 0 99 l) (ey : y ≡ field 0 99 (drop 2 l)) (em : m ≡ field 0 99 (drop 5 l)) (ed : d ≡ field 0 99 (drop 8 l))
@@ -336,7 +422,7 @@ module _ (l : List ℕ) {c y m d : ℕ} (ec : c ≡ field 0 99 l) (ey : y ≡ fi
   usual-day i = rw (ec, ey, em, ed) (day-answer l (rw (ec, ey, em, ed) at fits) i)
 
   pub usual-timed : {h n s e v : ℕ} → h ≡ field 0 99 (drop 11 l) → n ≡ field 0 99 (drop 14 l) → s ≡ field 0 99 (drop 17 l)
-      → clockFits (getD l 10 0) h (getD l 13 0) n (getD l 16 0) s ≡ true → Ends l e v → EndIs l e
-      → stampAnswer l ≡ usualAnswer (c * 100 + y) m d (clockShown h n s v) (offsetShown (ltb e (length l)))
+      → clockFits (getD l 10 0) h (getD l 13 0) n (getD l 16 0) s ≡ true → Ends l e v → Ended l e
+      → stampAnswer l ≡ usualAnswer (c * 100 + y) m d (clockShown h n s v) (shownUtc (utc (drop e l)))
   usual-timed eh en es f ends end =
       rw (ec, ey, em, ed, eh, en, es) (clock-answer l (rw (ec, ey, em, ed) at fits) _ _ (rw (eh, en, es) at f) ends end)

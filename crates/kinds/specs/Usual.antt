@@ -1,13 +1,14 @@
 -- Stamp texts as most are, by the places of their bytes: when the parts of a date and of a time fit, and what such a text is read as. These say nothing
 -- that must be believed: the readers' contracts cite `Kinds`. Assumes nothing: these are definitions.
-use Prim.Native.Nat.{ℕ, _-_, _/_, _^_, _≤_}
+use Prim.Native.Nat.{ℕ, zero, suc, _+_, _-_, _/_, _^_, _≤_}
 use mathlib.Core.Bool.{Bool, true, false, cond, _&&_, _||_}
 use mathlib.Core.Path.{_≡_}
 use mathlib.Core.List.{List}
 use lib.Dec.{ltb, leb, eqb}
 use lib.IntN.{pos}
-use lib.ListN.{length, drop}
-use Rattle.text.specs.Put.{mark}
+use lib.ListN.{length, getD, drop}
+use Rattle.names.specs.Grammar.{signByte}
+use Rattle.names.specs.Field.{field}
 use Rattle.iso.specs.Gregorian.{validDate}
 use Rattle.record.specs.declared.shown.Reading.{Reading}
 use Rattle.record.specs.declared.shown.Reading.the-variants as reading
@@ -15,7 +16,6 @@ use Rattle.record.specs.declared.stamp.DatePart.the-variants as part
 use Rattle.record.specs.declared.shown.ClockPart.{ClockPart}
 use Rattle.record.specs.declared.shown.ClockPart.the-variants as clock
 use Rattle.record.specs.declared.shown.ShownOffset.{ShownOffset}
-use Rattle.record.specs.declared.shown.ShownOffset.the-variants as offset
 use Rattle.record.specs.declared.shown.NamePart.the-variants as name
 use Rattle.time_syntax.specs.Read.{digitsFrom, fractionOf, fractionAt, past}
 use Rattle.meaning.specs.Shown.{second}
@@ -31,9 +31,9 @@ clockFits e h a n b s = eqb e 84 && leb h 23 && eqb a 58 && leb n 59 && eqb b 58
 abbrev pub unit : ℕ → ℕ
 unit k = 10 ^ (9 - k)
 
--- what stands where a fraction ends: `Z`, or nothing
+-- what stands where a fraction ends: `Z`, nothing, or the sign of an offset
 abbrev pub endByte : ℕ → Bool
-endByte b = eqb b 90 || eqb b 0
+endByte b = eqb b 90 || eqb b 0 || signByte b
 
 -- the digits of l from place 20 up to place e are of v nanoseconds
 abbrev pub Tells : List ℕ → ℕ → ℕ → Type 0
@@ -46,18 +46,25 @@ pub record Ends (l : List ℕ) (e v : ℕ) : Type 0 where
   pub few : ltb 9 (fractionAt (drop 19 l) .digits) ≡ false
   pub after : past true (fractionAt (drop 19 l) .point) (fractionAt (drop 19 l) .digits) (drop 11 l) ≡ drop e l
 
--- the fraction of l ends at place e: before a `Z` that is the last byte, or with the text
+-- what follows place e of l, k bytes: nothing, `Z`, or a sign, two bytes, `:` and two bytes
+abbrev pub Rest : List ℕ → ℕ → ℕ → Type 0
+Rest l e zero = Unit {0}
+Rest l e (suc zero) = getD l e 0 ≡ 90
+Rest l e (suc (suc k)) = (k ≡ 4) × (signByte (getD l e 0) ≡ true) × (getD l (e + 3) 0 ≡ 58)
+
+-- the fraction of l may end at place e
 pub record EndIs (l : List ℕ) (e : ℕ) : Type 0 where
   pub least : 19 ≤ e
   pub most : e ≤ length l
-  pub rest : drop e l ≡ mark (ltb e (length l)) 90
+  pub rest : Rest l e (length l - e)
 
--- what is shown of a time, and of an offset that is `Z` or not there
+-- the digits of the offset there, if there is one
+unfoldable pub offsetFits : List ℕ → ℕ → Bool
+offsetFits l e = cond (ltb (length l - e) 6) true (leb (field 0 99 (drop (e + 1) l)) 23 && leb (field 0 99 (drop (e + 4) l)) 59)
+
+-- what is shown of a time
 abbrev pub clockShown : ℕ → ℕ → ℕ → ℕ → ClockPart
 clockShown h n s v = clock.Is (record { hour = h; minute = n; second = second s; nanosecond = v })
-
-abbrev pub offsetShown : Bool → ShownOffset
-offsetShown zulu = cond zulu offset.Z offset.Absent
 
 -- the answer to such a text: 11, where the day is not in its month
 abbrev pub usualAnswer : ℕ → ℕ → ℕ → ClockPart → ShownOffset → Reading

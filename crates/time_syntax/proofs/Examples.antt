@@ -3,7 +3,6 @@ use Prim.Native.Nat.{ℕ}
 use Prim.Native.String.{String}
 use mathlib.Core.Bool.{Bool, true, false}
 use mathlib.Core.Path.{_≡_, refl}
-use mathlib.Core.List.{List, [], _∷_}
 use Rattle.text.proofs.Quoted.{bytes}
 use Rattle.names.specs.Field.{digit, pairOf, field}
 use Rattle.time_syntax.specs.declared.TimeRead.{TimeRead}
