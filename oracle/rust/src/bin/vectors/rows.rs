@@ -233,6 +233,15 @@ fn hint_rows(record: &Record, original: &Original) -> Result<Vec<Row>, ()> {
 
 // ---- the judgement
 
+/// The numbers of the rows that a record falls under, and the words of the library's answer, none where it is the original's; no
+/// answer where the original's length hint is wrong otherwise than a row says.
+pub fn assigned(record: &Record, original: &Original, room: usize) -> Option<(Vec<u32>, String)> {
+    match row(record, &original.text) {
+        Some((row, ours)) => Some((vec![row.0], words(&ours, room))),
+        None => hint_rows(record, original).ok().map(|rows| (rows.iter().map(|row| row.0).collect(), String::new())),
+    }
+}
+
 /// What was counted, and what was found wrong.
 pub struct Judge<R: BufRead> {
     replayed: R,
