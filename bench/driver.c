@@ -1,13 +1,14 @@
-/* Runs one call after the other as standard input says, so that callgrind counts the instructions of each: `--toggle-collect` for every measured
-   function leaves the loops of this file out. A call is run ONCE times, then ONCE times and TWICE times, with a dump after each that bears the
-   line's label: what the last has more than the one before is what ONCE calls take, and what only a first call does is in neither.
+/* Runs one call after the other as standard input says, so that callgrind counts the instructions of each. A call is run in three rounds, with a dump after
+   each that bears the line's label and the round's name: what `twice` has more than `once` is what 8 calls and 8 turns of the loop around them take, and
+   what only a first call does is in neither. The loops are in run_line and run_write alone, which the compiler leaves as they are, so that bench/run can tell
+   their instructions by their addresses; the call `nothing` takes one instruction, so that it can tell them in another way too.
+   usage: driver [CALLS]        CALLS in the last round, else 16
    A line is one of these; numbers are decimal, texts hexadecimal with `-` for the empty one. What the call answered is printed behind the label, and the
    text that it wrote, so that nothing is measured that failed.
      LABEL read CALL TEXT
      LABEL goal CALL NUMBER TEXT
      LABEL write CALL MAKE YEAR WORDS... NAMES      MAKE makes the peer's value of the fields, `-` for the library's own call; `day`, `second` and `instant` for
-                                                    those of its calls that make such a stamp themselves
-     LABEL sum CALL YEAR WORDS...                   of the fields, the date and the time */
+                                                    those of its calls that make such a stamp themselves */
 #include "fields.h"
 #include <dlfcn.h>
 #include <stdio.h>
@@ -15,7 +16,7 @@
 #include <string.h>
 #include <valgrind/callgrind.h>
 
-enum { ONCE = 8, TWICE = 16, LONGEST = 4096, ROOM = 256 };
+enum { LONGEST = 4096, ROOM = 256, ROUNDS = 3, NAME = 64 };
 
 struct given {
     size_t length;
@@ -31,10 +32,13 @@ typedef size_t stamp_call(uint8_t *, size_t, const uint8_t *, size_t, int32_t, c
 typedef size_t day_call(uint8_t *, size_t, int32_t, uint8_t, uint8_t);
 typedef size_t second_call(uint8_t *, size_t, int32_t, uint8_t, uint8_t, uint8_t, uint8_t, uint8_t);
 typedef size_t instant_call(uint8_t *, size_t, int32_t, uint8_t, uint8_t, uint8_t, uint8_t, uint8_t, uint32_t, uint8_t);
-typedef uint64_t sum_call(int32_t, uint8_t, uint8_t, uint8_t, uint8_t, uint8_t, uint32_t, _Bool);
 
 static const char *label;
 static uint8_t buffer[ROOM];
+static int turns[ROUNDS] = {8, 8, 16};
+static char names[ROUNDS][NAME];
+
+void nothing(void) {}
 
 static void fail(const char *what, const char *word)
 {
@@ -72,22 +76,20 @@ static void *call_of(const char *name)
     return found;
 }
 
-static void dump(const char *which)
-{
-    char name[256];
-    snprintf(name, sizeof name, "%s %s", label, which);
-    CALLGRIND_DUMP_STATS_AT(name);
-}
-
+/* The rounds have the same instructions, but for the turns of the loop. */
 #define MEASURE(answer, call)                                                                                                                                  \
     do {                                                                                                                                                       \
-        for (int i = 0; i < ONCE; i++) (answer) = (call);                                                                                                      \
-        CALLGRIND_ZERO_STATS;                                                                                                                                  \
-        for (int i = 0; i < ONCE; i++) (answer) = (call);                                                                                                      \
-        dump("once");                                                                                                                                          \
-        for (int i = 0; i < TWICE; i++) (answer) = (call);                                                                                                     \
-        dump("twice");                                                                                                                                         \
+        for (int round = 0; round < ROUNDS; round++) {                                                                                                         \
+            for (int i = 0; i < turns[round]; i++) (answer) = (call);                                                                                          \
+            CALLGRIND_DUMP_STATS_AT(names[round]);                                                                                                             \
+        }                                                                                                                                                      \
     } while (0)
+
+static void name_rounds(void)
+{
+    static const char *const rounds[ROUNDS] = {"warm", "once", "twice"};
+    for (int round = 0; round < ROUNDS; round++) snprintf(names[round], NAME, "%s %s", label, rounds[round]);
+}
 
 static void fields(struct fields *f)
 {
@@ -102,18 +104,18 @@ static void print_written(size_t count)
     puts("");
 }
 
-static void run_write(void *call, const char *make)
+static __attribute__((noipa)) void run_write(void *call, const char *make)
 {
-    static struct given names;
+    static struct given lent;
     struct fields f;
-    size_t count;
+    size_t count = 0;
     fields(&f);
-    text(&names);
-    f.names = names.bytes;
+    text(&lent);
+    f.names = lent.bytes;
     const uint32_t *w = f.words;
     uint8_t month = (uint8_t)w[MONTH], day = (uint8_t)w[DAY], hour = (uint8_t)w[HOUR], minute = (uint8_t)w[MINUTE], second = (uint8_t)w[SECOND];
     if (!strcmp(make, "-")) {
-        MEASURE(count, ((stamp_call *)call)(buffer, ROOM, names.bytes, names.length, f.year, w, WORDS));
+        MEASURE(count, ((stamp_call *)call)(buffer, ROOM, lent.bytes, lent.length, f.year, w, WORDS));
     } else if (!strcmp(make, "day")) {
         MEASURE(count, ((day_call *)call)(buffer, ROOM, f.year, month, day));
     } else if (!strcmp(make, "second")) {
@@ -127,7 +129,7 @@ static void run_write(void *call, const char *make)
     print_written(count);
 }
 
-static void run_line(const char *kind, const char *name)
+static __attribute__((noipa)) void run_line(const char *kind, const char *name)
 {
     static struct given lent;
     void *call = call_of(name);
@@ -143,24 +145,20 @@ static void run_line(const char *kind, const char *name)
         uint32_t goal = (uint32_t)number();
         text(&lent);
         MEASURE(answer, ((goal_call *)call)(goal, lent.bytes, lent.length));
-    } else if (!strcmp(kind, "sum")) {
-        struct fields f;
-        fields(&f);
-        const uint32_t *w = f.words;
-        uint8_t month = (uint8_t)w[MONTH], day = (uint8_t)w[DAY], hour = (uint8_t)w[HOUR], minute = (uint8_t)w[MINUTE], second = (uint8_t)w[SECOND];
-        MEASURE(answer, ((sum_call *)call)(f.year, month, day, hour, minute, second, w[NANOSECOND], w[OFFSET] == 1));
     } else {
         fail("no such kind", kind);
     }
     printf("%s %lu\n", label, (unsigned long)(uint32_t)answer);
 }
 
-int main(void)
+int main(int count, char **words)
 {
     static char line[2 * LONGEST + 1024];
+    if (count > 1) turns[ROUNDS - 1] = atoi(words[1]);
     while (fgets(line, sizeof line, stdin)) {
         label = strtok(line, " \n");
         if (!label) continue;
+        name_rounds();
         const char *kind = word();
         run_line(kind, word());
     }

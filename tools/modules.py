@@ -32,8 +32,9 @@ def clang(target, *words):
     subprocess.run([*fixed, *words], check=True, stderr=subprocess.DEVNULL)
 
 
-def compiled(name, exports, target, *words):
-    """The stem of what is made of a crate's module with these exports: .o, and with further words of clang's what they make."""
+def compiled(name, exports, target, *words, apart=()):
+    """The stem of what is made of a crate's module with these exports: .o, and with further words of clang's what they make. Functions that are named as apart
+    go into no caller."""
     stem = OUT / f"{name}.{target}.{exports[0] if len(exports) == 1 else 'all'}"
     code = stem.with_name(stem.name + ".ll")
     clang(target, "-Xclang", "-disable-llvm-passes", "-S", "-emit-llvm", "-x", "ir", OUT / f"{name}.bc", "-o", code)
@@ -42,6 +43,10 @@ def compiled(name, exports, target, *words):
         text, found = re.subn(rf"^define (?=[^\n]*@{other}\()", "define internal ", text, flags=re.M)
         if found != 1:
             raise SystemExit(f"tools/modules.py: {name} has no exported function {other}")
+    for kept in apart:
+        text, found = re.subn(rf'^(define [^\n]*@"{kept}"\([^\n]*) {{$', r"\1 noinline {", text, flags=re.M)
+        if found != 1:
+            raise SystemExit(f"tools/modules.py: {name} has no function {kept}")
     code.write_text(text)
     sections = ["-ffunction-sections", "-fdata-sections", "-fPIC"]
     clang(target, *sections, *words, "-c", "-x", "ir", code, "-o", f"{stem}.o")

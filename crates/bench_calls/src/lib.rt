@@ -36,21 +36,6 @@ pub extern "C" fn bench_read_goal(goal: u32, text: &[u8]) -> u64
     sum::reading_sum(stamp::read_number(goal, text))
 }
 
-// Of a reading what most stamps say, so that what the sum takes of `bench_read` can be told.
-#[no_mangle]
-pub extern "C" fn bench_sum(
-    year: i32,
-    month: u8,
-    day: u8,
-    hour: u8,
-    minute: u8,
-    second: u8,
-    nanosecond: u32,
-    zulu: bool,
-) -> u64 {
-    sum::reading_sum(records::reading_of(year, month, day, hour, minute, second, nanosecond, zulu))
-}
-
 #[no_mangle]
 pub extern "C" fn bench_read_duration(text: &[u8]) -> u64 {
     sum::duration_sum(stamp::read_duration(text))

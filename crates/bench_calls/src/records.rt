@@ -2,7 +2,6 @@
 use stamp::Calendar;
 use stamp::CalendarPart;
 use stamp::Clock;
-use stamp::ClockPart;
 use stamp::Date;
 use stamp::DateDuration;
 use stamp::DateDurationPart;
@@ -12,13 +11,9 @@ use stamp::DisplayOffset;
 use stamp::DisplayTimeZone;
 use stamp::Duration;
 use stamp::Name;
-use stamp::NamePart;
 use stamp::Offset;
 use stamp::OffsetPart;
 use stamp::Precision;
-use stamp::Reading;
-use stamp::Shown;
-use stamp::ShownOffset;
 use stamp::Sign;
 use stamp::SignedTime;
 use stamp::Stamp;
@@ -321,33 +316,4 @@ pub fn duration_of(words: &[u32], large: &[u64]) -> Duration {
         date: DateDurationPart::Is(date),
         time: time_duration(word(words, 5), word(words, 6), large),
     }
-}
-
-fn zulu_of(zulu: bool) -> ShownOffset {
-    if zulu {
-        return ShownOffset::Z;
-    }
-    ShownOffset::Absent
-}
-
-// What a text such as `2024-05-06T10:15:30.5Z` is read as.
-pub fn reading_of(
-    year: i32,
-    month: u8,
-    day: u8,
-    hour: u8,
-    minute: u8,
-    second: u8,
-    nanosecond: u32,
-    zulu: bool,
-) -> Reading {
-    let clock = clock_of(hour, minute, second, nanosecond);
-    let shown = Shown {
-        date: DatePart::Is(date_of(year, month, day)),
-        time: ClockPart::Is(clock),
-        offset: zulu_of(zulu),
-        zone: NamePart::Absent,
-        calendar: NamePart::Absent,
-    };
-    Reading::Accepted(shown)
 }
