@@ -1,5 +1,5 @@
 // The row of a line: a mark, the line's number, its width and its text; below the text the verdict and what was read, in words.
-use crate::fields::put_fields;
+use audit_fields::put_fields;
 use audit_tally::kinds::Change;
 use audit_tally::kinds::Kind;
 use audit_tally::kinds::Verdict;

@@ -7,7 +7,7 @@ ghost use Rattle.recogniser.specs.Recognised.{Recognised};
 pub fn judge(goal: u32, line: &[u8]) -> Verdict
     ensures { λ r. ⌜ (r .reading ≡ readNumber goal (now (line .entry))) × Recognised (now (line .entry)) (r .ours) ⌝ }
 {
-    let reading = stamp::read_number(goal, line);
-    let ours = stamp::recognise(line);
+    let reading = reader::goals::read_number(goal, line);
+    let ours = recogniser::recognise(line);
     Verdict { reading, ours }
 }

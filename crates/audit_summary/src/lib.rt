@@ -1,10 +1,10 @@
 // The summary: how many lines there are of each kind and where the first of them is, the refusals by number, and the lines at which the year's width
 // changes.
-use audit_log::lines::State;
-use audit_log::output::Out;
-use audit_log::output::Waiting;
-use audit_log::output::flush;
-use audit_log::output::room;
+use audit_run::output::Out;
+use audit_run::output::Waiting;
+use audit_run::output::flush;
+use audit_run::output::room;
+use audit_run::state::State;
 use audit_tally::counts::FOREIGN;
 use audit_tally::counts::KEPT;
 use audit_tally::counts::OURS;

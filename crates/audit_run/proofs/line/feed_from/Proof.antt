@@ -1,9 +1,9 @@
--- `audit_log::lines::feed_from` meets its contract: the place only moves on, and stays inside the chunk. Assumes nothing.
+-- `audit_run::line::feed_from` meets its contract: the place only moves on, and stays inside the chunk. Assumes nothing.
 use Prim.Native.Nat.{_-_, _≤_}
 use lib.ListN.{length}
 use borrow.Author.Needs.{needs}
-use Rattle.audit_log.proofs.lines.feed_from.Statement.{statement}
-use Rattle.audit_log.proofs.lines.feed_from.Tie as tie
+use Rattle.audit_run.proofs.line.feed_from.Statement.{statement}
+use Rattle.audit_run.proofs.line.feed_from.Tie as tie
 
 abbrev Inv-loop : tie.InvT-loop
 Inv-loop chunk from i₀ i = (from ≤ i) × (i ≤ length chunk)
