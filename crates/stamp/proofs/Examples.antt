@@ -46,7 +46,7 @@ use Rattle.time_writer.specs.Offset.{signedText, offsetText, offsetOk}
 use Rattle.tail_writer.specs.Annotation.{bracketed}
 use Rattle.tail_writer.specs.Zone.{zoneText, zoneOk}
 use Rattle.tail_writer.specs.Calendar.{isIso, calendarText, calendarOk}
-use Rattle.writer.specs.Partial.{monthDayText, monthDayJudged}
+use Rattle.partial_writer.specs.Partial.{monthDayText, monthDayJudged}
 use Rattle.writer.specs.Stamp.{stampText, fieldsOk, namesOk, partsOk, stampJudged}
 use Rattle.duration.specs.Duration.{unit, dateUnits, secondsShown, secondsText, timeUnits, partsText, durationText, durationOk, durationPartsOk, durationJudged}
 use Rattle.date_syntax.specs.Read.{marked as dash, plain as four, signed, year, date as date-at}

@@ -111,8 +111,8 @@ fn month_day(line: &[u8], at: usize, paper: &mut [u8]) -> Answers {
     let lent = between(&texts, 0, read.used);
     Answers {
         ok: room.ok,
-        length: writer::partial::month_day_length(lent, day, value),
-        written: writer::partial::write_month_day(&mut paper[0..n], lent, day, value),
+        length: partial_writer::month_day_length(lent, day, value),
+        written: partial_writer::write_month_day(&mut paper[0..n], lent, day, value),
         next: room.next,
     }
 }
@@ -129,8 +129,8 @@ fn year_month(line: &[u8], at: usize, paper: &mut [u8]) -> Answers {
     let lent = between(&texts, 0, read.used);
     Answers {
         ok: room.ok,
-        length: writer::partial::year_month_length(lent, day, value),
-        written: writer::partial::write_year_month(&mut paper[0..n], lent, day, value),
+        length: partial_writer::year_month_length(lent, day, value),
+        written: partial_writer::write_year_month(&mut paper[0..n], lent, day, value),
         next: room.next,
     }
 }

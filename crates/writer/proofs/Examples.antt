@@ -1,4 +1,4 @@
--- The writers' examples of document 01 and of its decided points, computed. Assumes nothing.
+-- The examples of document 01 and of its decided points for the writers of stamps and their parts, computed. Assumes nothing.
 use Prim.Native.Nat.{ℕ}
 use Prim.Native.String.{String}
 use mathlib.Core.Path.{_≡_, refl}
@@ -7,8 +7,7 @@ use mathlib.Core.List.{List, _++_}
 use lib.IntN.{ℤ, pos, negsuc}
 use lib.ListN.{replicate}
 use Rattle.text.specs.Digits.{lastNonzero, fraction}
-use Rattle.text.specs.Answer.{Judged, good, bad, lengthOf, answerOf, bufferOf}
-use Rattle.text.specs.declared.LengthAnswer.the-variants.{Length}
+use Rattle.text.specs.Answer.{Judged, good, bad, answerOf, bufferOf}
 use Rattle.text.specs.declared.WriteAnswer.the-variants.{Written, Refused}
 use Rattle.text.proofs.Quoted.{bytes}
 use Rattle.iso.specs.Gregorian.{leapRule, isLeap, monthLengths, daysInMonth, validDate}
@@ -41,7 +40,6 @@ use Rattle.time_writer.specs.Offset.{signedText, offsetText, offsetOk, offsetJu
 use Rattle.tail_writer.specs.Annotation.{bracketed}
 use Rattle.tail_writer.specs.Zone.{zoneText, zoneOk, zoneJudged}
 use Rattle.tail_writer.specs.Calendar.{isIso, calendarText, calendarOk, calendarJudged}
-use Rattle.writer.specs.Partial.{monthDayText, yearMonthText, monthDayJudged, yearMonthJudged}
 use Rattle.writer.specs.Stamp.{stampText, fieldsOk, namesOk, partsOk, stampJudged}
 
 -- ---- records in a line each: settings first, then values
@@ -146,22 +144,6 @@ table :
     × (calendarJudged lent (in-calendar calendar.Critical iso) ≡ is "[!u-ca=iso8601]")
     × (calendarJudged lent (in-calendar calendar.Never ISO) ≡ is "")
     × (calendarJudged lent (in-calendar calendar.Never dash) ≡ bad 3)
-    -- month-days: the year is written under Always and Critical and for another calendar, and tested where it is not; 2 comes before 3
-    × (monthDayJudged lent (day (pos 1972) 5 6) (in-calendar calendar.Always iso) ≡ is "1972-05-06[u-ca=iso8601]")
-    × (lengthOf (monthDayJudged lent (day (pos 1972) 5 6) (in-calendar calendar.Always iso)) ≡ Length 24)
-    × (monthDayJudged lent (day (pos 1972) 5 6) (in-calendar calendar.Auto iso) ≡ is "05-06")
-    × (monthDayJudged lent (day (pos 1972) 5 6) (in-calendar calendar.Never iso) ≡ is "05-06")
-    × (monthDayJudged lent (day (pos 1972) 5 6) (in-calendar calendar.Never ISO) ≡ is "1972-05-06")
-    × (monthDayJudged lent (day (pos 1972) 2 29) (in-calendar calendar.Auto iso) ≡ is "02-29")
-    × (monthDayJudged lent (day (pos 2023) 2 29) (in-calendar calendar.Auto iso) ≡ bad 2)
-    × (monthDayJudged lent (day (pos 2023) 2 29) (in-calendar calendar.Auto dash) ≡ bad 2)
-    × (monthDayJudged lent (day (pos 1972) 5 6) (in-calendar calendar.Never dash) ≡ bad 3)
-    -- year-months: the same with the day
-    × (yearMonthJudged lent (day (pos 2024) 5 1) (in-calendar calendar.Auto iso) ≡ is "2024-05")
-    × (yearMonthJudged lent (day (pos 10000) 5 1) (in-calendar calendar.Critical iso) ≡ is "+010000-05-01[!u-ca=iso8601]")
-    × (yearMonthJudged lent (day (pos 2024) 5 1) (in-calendar calendar.Auto ISO) ≡ is "2024-05-01[u-ca=ISO8601]")
-    × (yearMonthJudged lent (day (pos 2024) 5 32) (in-calendar calendar.Auto iso) ≡ bad 2)
-    × (yearMonthJudged lent (day (pos 2024) 5 1) (in-calendar calendar.Auto dash) ≡ bad 3)
     -- stamps: 45 bytes, into a buffer of 44, and into one of 46, whose last byte stays
     × (stampJudged lent last ≡ is "9999-12-31T23:59:59.999Z[!UTC][!u-ca=iso8601]")
     × (answerOf (stampJudged lent last) (replicate 44 7) ≡ Refused 1)
@@ -185,5 +167,5 @@ unfolding lent is last bytes
     zoneJudged zoneOk zoneText calendarJudged calendarOk calendarText isIso bracketed
     zoneNameOk calendarNameOk nameOk nameInside zoneRun calendarRun numericRun numericOf field pairOf digit
     runOf wholeOf step zoneStep valueStep partStep runStep dotStep joinStep wordStep
-    monthDayJudged monthDayText yearMonthJudged yearMonthText stampJudged fieldsOk namesOk partsOk stampText
-table = (refl, refl, refl, refl, refl, refl, refl, refl, refl, refl, refl, refl, refl, refl, refl, refl, refl, refl, refl, refl, refl, refl, refl, refl, refl, refl, refl, refl, refl, refl, refl, refl, refl, refl, refl, refl, refl, refl, refl, refl, refl, refl, refl, refl, refl, refl, refl, refl, refl, refl, refl, refl, refl, refl, refl, refl, refl, refl, refl, refl, refl, refl, refl, refl, refl, refl, refl, refl, refl, refl)
+    stampJudged fieldsOk namesOk partsOk stampText
+table = (refl, refl, refl, refl, refl, refl, refl, refl, refl, refl, refl, refl, refl, refl, refl, refl, refl, refl, refl, refl, refl, refl, refl, refl, refl, refl, refl, refl, refl, refl, refl, refl, refl, refl, refl, refl, refl, refl, refl, refl, refl, refl, refl, refl, refl, refl, refl, refl, refl, refl, refl, refl, refl, refl, refl, refl)

@@ -1,5 +1,4 @@
 -- What several proofs, and the crates above, cite.
-pub mod PartialLaws
 pub mod StampLaws
 pub mod UsualLaws
 pub mod Longest

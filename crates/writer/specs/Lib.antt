@@ -1,4 +1,3 @@
 -- The definitions that the contracts of this crate, and the crates above, cite.
-pub mod Partial
 pub mod Stamp
 pub mod Usual

@@ -1,4 +1,3 @@
-// What is made of the parts: month-days, year-months and whole stamps, their exact lengths, and their texts written to a lent buffer.
-pub mod partial;
+// Whole stamps: their exact lengths, and their texts written to a lent buffer.
 pub mod stamp;
 pub mod usual;

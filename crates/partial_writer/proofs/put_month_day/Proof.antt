@@ -1,4 +1,4 @@
--- `writer::partial::put_month_day` meets its contract: four calls. Assumes nothing.
+-- `partial_writer::put_month_day` meets its contract: four calls. Assumes nothing.
 use mathlib.Core.Path.{refl}
 use native.Mathlib.Omega.{arith}
 use borrow.Author.Needs.{needs}
@@ -6,11 +6,11 @@ use denote.Ref.{now}
 use mir.Syntax.{w32}
 use mir.Facts.{toZ-ofZ}
 use Rattle.text.proofs.PutLaws.{put-more, chain4, room-last}
-use Rattle.writer.specs.Partial.{monthDayText}
+use Rattle.partial_writer.specs.Partial.{monthDayText}
 use Rattle.date_writer.proofs.DateLaws.{date-in}
-use Rattle.writer.proofs.PartialLaws.{length-month-day}
-use Rattle.writer.proofs.partial.put_month_day.Statement.{statement}
-use Rattle.writer.proofs.partial.put_month_day.Tie as tie
+use Rattle.partial_writer.proofs.PartialLaws.{length-month-day}
+use Rattle.partial_writer.proofs.put_month_day.Statement.{statement}
+use Rattle.partial_writer.proofs.put_month_day.Tie as tie
 
 put-leading-year-requires : tie.Need-put-leading-year-requires
 put-leading-year-requires c κs =

@@ -8,7 +8,7 @@ use Rattle.record.specs.declared.stamp.Date.{Date}
 use Rattle.record.specs.declared.stamp.Calendar.{Calendar}
 use Rattle.date_writer.specs.Date.{yearText}
 use Rattle.tail_writer.specs.Calendar.{calendarText}
-use Rattle.writer.specs.Partial.{whole, leadingYear, trailingDay, monthDayText, yearMonthText}
+use Rattle.partial_writer.specs.Partial.{whole, leadingYear, trailingDay, monthDayText, yearMonthText}
 
 pub length-month-day : (lent : List ℕ) (d : Date) (c : Calendar)
     → length (monthDayText lent d c) ≡ length (leadingYear (whole lent c) (d .year)) + 5 + length (calendarText lent c)

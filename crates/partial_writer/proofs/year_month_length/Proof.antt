@@ -1,9 +1,9 @@
--- `writer::partial::year_month_length` meets its contract: the tests in their order decide between the refusals and the length. Assumes nothing.
+-- `partial_writer::year_month_length` meets its contract: the tests in their order decide between the refusals and the length. Assumes nothing.
 use mathlib.Core.Path.{ap, sym, _∙_}
 use Rattle.text.specs.declared.LengthAnswer.the-variants as len
-use Rattle.writer.specs.Partial.{yearMonthJudged}
-use Rattle.writer.proofs.partial.year_month_length.Statement.{statement}
-use Rattle.writer.proofs.partial.year_month_length.Tie as tie
+use Rattle.partial_writer.specs.Partial.{yearMonthJudged}
+use Rattle.partial_writer.proofs.year_month_length.Statement.{statement}
+use Rattle.partial_writer.proofs.year_month_length.Tie as tie
 
 year-month-bytes-requires : tie.Need-year-month-bytes-requires
 year-month-bytes-requires c κs = sym (c .before .calendar-ok .ensures) ∙ c .if2 .taken

@@ -1,12 +1,12 @@
--- `writer::partial::year_month_bytes` meets its contract, by the text's length law. Assumes nothing.
+-- `partial_writer::year_month_bytes` meets its contract, by the text's length law. Assumes nothing.
 use native.Mathlib.Omega.{arith}
 use borrow.Author.Needs.{needs}
 use denote.Ref.{now}
 use mir.Syntax.{w32}
 use mir.Facts.{toZ-ofZ}
-use Rattle.writer.proofs.PartialLaws.{length-year-month}
-use Rattle.writer.proofs.partial.year_month_bytes.Statement.{statement}
-use Rattle.writer.proofs.partial.year_month_bytes.Tie as tie
+use Rattle.partial_writer.proofs.PartialLaws.{length-year-month}
+use Rattle.partial_writer.proofs.year_month_bytes.Statement.{statement}
+use Rattle.partial_writer.proofs.year_month_bytes.Tie as tie
 
 returns : tie.Need-returns
 returns c =

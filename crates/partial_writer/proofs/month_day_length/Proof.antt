@@ -1,9 +1,9 @@
--- `writer::partial::month_day_length` meets its contract: the tests in their order decide between the refusals and the length. Assumes nothing.
+-- `partial_writer::month_day_length` meets its contract: the tests in their order decide between the refusals and the length. Assumes nothing.
 use mathlib.Core.Path.{ap, sym, _∙_}
 use Rattle.text.specs.declared.LengthAnswer.the-variants as len
-use Rattle.writer.specs.Partial.{monthDayJudged}
-use Rattle.writer.proofs.partial.month_day_length.Statement.{statement}
-use Rattle.writer.proofs.partial.month_day_length.Tie as tie
+use Rattle.partial_writer.specs.Partial.{monthDayJudged}
+use Rattle.partial_writer.proofs.month_day_length.Statement.{statement}
+use Rattle.partial_writer.proofs.month_day_length.Tie as tie
 
 month-day-bytes-requires : tie.Need-month-day-bytes-requires
 month-day-bytes-requires c κs = sym (c .before .calendar-ok .ensures) ∙ c .if2 .taken

@@ -1,8 +1,8 @@
--- `writer::partial::put_trailing_day` meets its contract: each arm has its case of `trailingDay`. Assumes nothing.
+-- `partial_writer::put_trailing_day` meets its contract: each arm has its case of `trailingDay`. Assumes nothing.
 use borrow.Author.Needs.{needs}
 use Rattle.text.proofs.PutLaws.{put-none}
-use Rattle.writer.proofs.partial.put_trailing_day.Statement.{statement}
-use Rattle.writer.proofs.partial.put_trailing_day.Tie as tie
+use Rattle.partial_writer.proofs.put_trailing_day.Statement.{statement}
+use Rattle.partial_writer.proofs.put_trailing_day.Tie as tie
 
 put-dashed-requires : tie.Need-put-dashed-requires
 put-dashed-requires c κs =

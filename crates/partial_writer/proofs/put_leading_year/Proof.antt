@@ -1,4 +1,4 @@
--- `writer::partial::put_leading_year` meets its contract: each arm has its case of `leadingYear`. Assumes nothing.
+-- `partial_writer::put_leading_year` meets its contract: each arm has its case of `leadingYear`. Assumes nothing.
 use mathlib.Core.Path.{refl}
 use mathlib.Core.List.{[], _∷_}
 use native.Mathlib.Omega.{arith}
@@ -7,8 +7,8 @@ use lib.ListN.{length-append}
 use mir.Facts.{toZ-ofZ}
 use Rattle.text.proofs.PutLaws.{put-none, chain2, room-last}
 use Rattle.date_writer.specs.Date.{yearText}
-use Rattle.writer.proofs.partial.put_leading_year.Statement.{statement}
-use Rattle.writer.proofs.partial.put_leading_year.Tie as tie
+use Rattle.partial_writer.proofs.put_leading_year.Statement.{statement}
+use Rattle.partial_writer.proofs.put_leading_year.Tie as tie
 
 put-year-requires : tie.Need-put-year-requires
 put-year-requires c κs =

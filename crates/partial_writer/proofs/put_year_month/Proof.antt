@@ -1,4 +1,4 @@
--- `writer::partial::put_year_month` meets its contract: four calls. Assumes nothing.
+-- `partial_writer::put_year_month` meets its contract: four calls. Assumes nothing.
 use mathlib.Core.Path.{refl, ap}
 use mathlib.Core.Bool.{Bool}
 use native.Mathlib.Omega.{arith}
@@ -8,11 +8,11 @@ use lib.ListN.{length}
 use mir.Syntax.{w32}
 use mir.Facts.{toZ-ofZ}
 use Rattle.text.proofs.PutLaws.{put-more, chain4, room-last}
-use Rattle.writer.specs.Partial.{trailingDay, yearMonthText}
+use Rattle.partial_writer.specs.Partial.{trailingDay, yearMonthText}
 use Rattle.date_writer.proofs.DateLaws.{date-in}
-use Rattle.writer.proofs.PartialLaws.{length-year-month}
-use Rattle.writer.proofs.partial.put_year_month.Statement.{statement}
-use Rattle.writer.proofs.partial.put_year_month.Tie as tie
+use Rattle.partial_writer.proofs.PartialLaws.{length-year-month}
+use Rattle.partial_writer.proofs.put_year_month.Statement.{statement}
+use Rattle.partial_writer.proofs.put_year_month.Tie as tie
 
 put-year-requires : tie.Need-put-year-requires
 put-year-requires c κs =

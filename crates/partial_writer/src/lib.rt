@@ -1,4 +1,5 @@
-// Month-days and year-months: the whole date where the calendar is Always or Critical or not `iso8601`.
+// Month-days and year-months, their exact lengths, and their texts written to a lent buffer: the whole date where the calendar is Always or Critical or
+// not `iso8601`.
 use record::Calendar;
 use record::Date;
 use record::DisplayCalendar;
@@ -11,7 +12,7 @@ ghost use Rattle.text.specs.Put.{Room, Put, Count};
 ghost use Rattle.text.specs.Answer.{lengthOf, Wrote};
 ghost use Rattle.date_writer.specs.Date.{dateOk};
 ghost use Rattle.tail_writer.specs.Calendar.{calendarOk};
-ghost use Rattle.writer.specs.Partial.{wholeDate, whole, leadingYear, trailingDay, monthDayText, yearMonthText, monthDayJudged, yearMonthJudged};
+ghost use Rattle.partial_writer.specs.Partial.{wholeDate, whole, leadingYear, trailingDay, monthDayText, yearMonthText, monthDayJudged, yearMonthJudged};
 
 fn whole_date(show: DisplayCalendar, iso: bool) -> bool
     ensures { λ r. ⌜ r ≡ wholeDate show iso ⌝ }

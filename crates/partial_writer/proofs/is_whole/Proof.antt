@@ -1,8 +1,8 @@
--- `writer::partial::is_whole` meets its contract. Assumes nothing.
+-- `partial_writer::is_whole` meets its contract. Assumes nothing.
 use mathlib.Core.Path.{ap, _∙_}
-use Rattle.writer.specs.Partial.{wholeDate}
-use Rattle.writer.proofs.partial.is_whole.Statement.{statement}
-use Rattle.writer.proofs.partial.is_whole.Tie as tie
+use Rattle.partial_writer.specs.Partial.{wholeDate}
+use Rattle.partial_writer.proofs.is_whole.Statement.{statement}
+use Rattle.partial_writer.proofs.is_whole.Tie as tie
 
 returns : tie.Need-returns
 returns c = c .whole-date .ensures ∙ ap (wholeDate (c .before .before .before .args .c .show)) (c .before .is-iso .ensures)

@@ -1,12 +1,12 @@
--- `writer::partial::month_day_bytes` meets its contract, by the text's length law. Assumes nothing.
+-- `partial_writer::month_day_bytes` meets its contract, by the text's length law. Assumes nothing.
 use native.Mathlib.Omega.{arith}
 use borrow.Author.Needs.{needs}
 use denote.Ref.{now}
 use mir.Syntax.{w32}
 use mir.Facts.{toZ-ofZ}
-use Rattle.writer.proofs.PartialLaws.{length-month-day}
-use Rattle.writer.proofs.partial.month_day_bytes.Statement.{statement}
-use Rattle.writer.proofs.partial.month_day_bytes.Tie as tie
+use Rattle.partial_writer.proofs.PartialLaws.{length-month-day}
+use Rattle.partial_writer.proofs.month_day_bytes.Statement.{statement}
+use Rattle.partial_writer.proofs.month_day_bytes.Tie as tie
 
 returns : tie.Need-returns
 returns c =

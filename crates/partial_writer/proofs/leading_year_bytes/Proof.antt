@@ -1,12 +1,12 @@
--- `writer::partial::leading_year_bytes` meets its contract: each arm has its case of `leadingYear`. Assumes nothing.
+-- `partial_writer::leading_year_bytes` meets its contract: each arm has its case of `leadingYear`. Assumes nothing.
 use mathlib.Core.List.{[], _∷_}
 use native.Mathlib.Omega.{arith}
 use borrow.Author.Needs.{needs}
 use lib.ListN.{length-append}
 use mir.Facts.{toZ-ofZ}
 use Rattle.date_writer.specs.Date.{yearText}
-use Rattle.writer.proofs.partial.leading_year_bytes.Statement.{statement}
-use Rattle.writer.proofs.partial.leading_year_bytes.Tie as tie
+use Rattle.partial_writer.proofs.leading_year_bytes.Statement.{statement}
+use Rattle.partial_writer.proofs.leading_year_bytes.Tie as tie
 
 returns : tie.Need-returns
 returns c =

@@ -1,0 +1,3 @@
+-- The laws that several proofs cite, and the examples.
+mod PartialLaws
+mod Examples

@@ -1,0 +1,2 @@
+-- The definitions that the contracts of this crate, and the crates above, cite.
+pub mod Partial
