@@ -1,10 +1,11 @@
 // For the test programs only: what the library says to a vector line, by its tag, and the run over a list of lines. A tag is added in one
-// place: its function in `checks` or `lines`, and its line in `by_tag`. Such a function reads the inputs of the line from place `at` on, calls the library, and puts what it answered into
-// `got`, in the words of the line. The tags of the writers are in `test_writers`, those of the readers in `test_readers`.
-pub mod checks;
+// place: its function in `lines` or in `test_answers::checks`, and its line in `by_tag`. Such a function reads the inputs of the line from
+// place `at` on, calls the library, and puts what it answered into `got`, in the words of the line. The tags of the writers are in
+// `test_writers`, those of the readers in `test_readers`.
 pub mod lines;
 pub mod list;
 
+use test_answers::checks;
 use test_lines::buffer::between;
 use test_lines::fields::MOST;
 use test_lines::fields::field_at;

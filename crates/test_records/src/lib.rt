@@ -1,3 +1,2 @@
-// For the test programs only: the records of vector lines, and what writers answered in their words.
+// For the test programs only: the records of vector lines.
 pub mod records;
-pub mod written;

@@ -1,9 +1,9 @@
--- `test_records::written::is_blank` is safe and ends. Assumes nothing.
+-- `test_answers::written::is_blank` is safe and ends. Assumes nothing.
 use Prim.Native.Nat.{_-_}
 use lib.ListN.{length}
 use borrow.Author.Needs.{needs}
-use Rattle.test_records.proofs.written.is_blank.Statement.{statement}
-use Rattle.test_records.proofs.written.is_blank.Tie as tie
+use Rattle.test_answers.proofs.written.is_blank.Statement.{statement}
+use Rattle.test_answers.proofs.written.is_blank.Tie as tie
 
 abbrev Inv-loop : tie.InvT-loop
 Inv-loop paper from i₀ i = Unit {0}

@@ -1,10 +1,10 @@
--- `test_judge::checks::add_digits` is safe and ends. Assumes nothing.
+-- `test_answers::checks::add_digits` is safe and ends. Assumes nothing.
 use Prim.Native.Nat.{_-_}
 use mathlib.Core.Path.{_≡_}
 use lib.ListN.{length}
 use borrow.Author.Needs.{needs}
-use Rattle.test_judge.proofs.checks.add_digits.Statement.{statement}
-use Rattle.test_judge.proofs.checks.add_digits.Tie as tie
+use Rattle.test_answers.proofs.checks.add_digits.Statement.{statement}
+use Rattle.test_answers.proofs.checks.add_digits.Tie as tie
 
 abbrev Inv-loop : tie.InvT-loop
 Inv-loop got₀ at digits o₀ i₀ got o i = length got ≡ length got₀
