@@ -1,18 +1,17 @@
 -- `date_syntax::marked_two` meets its contract. Assumes nothing.
-use borrow.Author.Needs.{needs}
 use Rattle.text.proofs.Tests.{tests}
 use Rattle.date_syntax.specs.Read.{marked}
 use Rattle.date_syntax.proofs.marked_two.Statement.{statement}
 use Rattle.date_syntax.proofs.marked_two.Tie as tie
 
 first-requires : tie.Need-first-requires
-first-requires c κs = search needs
+first-requires c κs = tt
 
 rest-requires : tie.Need-rest-requires
-rest-requires c κs = search needs
+rest-requires c κs = tt
 
 two-requires : tie.Need-two-requires
-two-requires c κs = search needs
+two-requires c κs = tt
 
 returns : tie.Need-returns
 unfolding marked

@@ -1,17 +1,16 @@
 -- `grammar::read_year_month_text` meets its contract. Assumes nothing.
-use borrow.Author.Needs.{needs}
 use Rattle.grammar.specs.Read.{yearMonthText}
 use Rattle.grammar.proofs.read_year_month_text.Statement.{statement}
 use Rattle.grammar.proofs.read_year_month_text.Tie as tie
 
 read-year-month-requires : tie.Need-read-year-month-requires
-read-year-month-requires c κs = search needs
+read-year-month-requires c κs = tt
 
 after-year-month-requires : tie.Need-after-year-month-requires
-after-year-month-requires c κs = search needs
+after-year-month-requires c κs = tt
 
 read-tail-requires : tie.Need-read-tail-requires
-read-tail-requires c κs = search needs
+read-tail-requires c κs = tt
 
 returns : tie.Need-returns
 unfolding yearMonthText

@@ -1,17 +1,16 @@
 -- `grammar::time_from` meets its contract. Assumes nothing.
-use borrow.Author.Needs.{needs}
 use Rattle.grammar.specs.Read.{timeFrom}
 use Rattle.grammar.proofs.time_from.Statement.{statement}
 use Rattle.grammar.proofs.time_from.Tie as tie
 
 clock-at-requires : tie.Need-clock-at-requires
-clock-at-requires c κs = search needs
+clock-at-requires c κs = tt
 
 after-clock-requires : tie.Need-after-clock-requires
-after-clock-requires c κs = search needs
+after-clock-requires c κs = tt
 
 read-tail-requires : tie.Need-read-tail-requires
-read-tail-requires c κs = search needs
+read-tail-requires c κs = tt
 
 returns : tie.Need-returns
 unfolding timeFrom

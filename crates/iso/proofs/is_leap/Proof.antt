@@ -3,7 +3,6 @@
 use mathlib.Core.Path.{_≡_}
 use mathlib.Core.Bool.{true, false}
 use Prim.Native.Nat.{ℕ, _%_}
-use borrow.Author.Needs.{needs}
 use borrow.Author.Tests.{eq-eqb, ne-eqb}
 use mir.Facts.{toZ-ofZ}
 use lib.Dec.{eqb}
@@ -26,7 +25,7 @@ module _ (y : ℤ) (n : ℕ) (e : n ≡ natAbs y) where
   common a = rw (← e, ne-eqb _ _ a)
 
 magnitude-requires : tie.Need-magnitude-requires
-magnitude-requires c κs = search needs
+magnitude-requires c κs = tt
 
 returns : tie.Need-returns
 returns c = by-400 _ _ (rw (toZ-ofZ (c .before .before .before .fits .year)) at (c .before .before .magnitude .ensures)) (c .before .if1 .taken) (c .if2 .taken)

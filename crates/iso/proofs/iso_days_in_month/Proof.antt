@@ -25,7 +25,7 @@ returns : tie.Need-returns
 returns c = sym (no-month _ _ (c .if1 .taken))
 
 is-leap-requires : tie.Need-is-leap-requires
-is-leap-requires c κs = search needs
+is-leap-requires c κs = tt
 
 array-read-result : tie.Need-array-read-result
 array-read-result c = search needs
