@@ -7,7 +7,7 @@ enum-known-d : tie.Need-enum-known-d
 enum-known-d c = search needs
 
 plain-year-requires : tie.Need-plain-year-requires
-plain-year-requires c κs = tt
+plain-year-requires c κs = search needs
 
 enum-told : tie.Need-enum-told
 enum-told c = search needs

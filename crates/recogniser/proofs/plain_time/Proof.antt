@@ -7,7 +7,7 @@ enum-known-t : tie.Need-enum-known-t
 enum-known-t c = search needs
 
 plain-fraction-requires : tie.Need-plain-fraction-requires
-plain-fraction-requires c κs = tt
+plain-fraction-requires c κs = search needs
 
 enum-told : tie.Need-enum-told
 enum-told c = search needs

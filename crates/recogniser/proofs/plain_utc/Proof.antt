@@ -13,7 +13,7 @@ enum-known-u-2 : tie.Need-enum-known-u-2
 enum-known-u-2 c = search needs
 
 plain-fraction-requires : tie.Need-plain-fraction-requires
-plain-fraction-requires c κs = tt
+plain-fraction-requires c κs = search needs
 
 enum-told-2 : tie.Need-enum-told-2
 enum-told-2 c = search needs
