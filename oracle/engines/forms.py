@@ -13,6 +13,7 @@ ZONE_BYTES = 27
 KEY_BYTES = 28
 VALUE_BYTES = 29
 SINGLE = 30
+MORE = 46
 
 # ---- before the brackets: the separated and the compact forms; numbers are within their range
 
@@ -160,21 +161,21 @@ def open_note(text, at):
 
 
 def open_tail(text, at):
-    """The brackets as Chromium reads them where they are not of Temporal's grammar."""
+    """The brackets as Chromium reads them where they are not of Temporal's grammar. It reads them as long as `[` follows."""
     zone, notes, wider = None, [], set()
     if ZONE_AHEAD.match(text, at):
         found = open_zone(text, at)
         if not found:
             return None
         zone, at, wider = found
-    while at < len(text):
-        found = open_note(text, at) if text[at] == "[" else None
+    while text.startswith("[", at):
+        found = open_note(text, at)
         if not found:
             return None
         note, at, rows = found
         notes.append(note)
         wider = wider | rows
-    return Tail(zone, notes, wider)
+    return Tail(zone, notes, wider if at == len(text) else wider | {MORE})
 
 
 def single(note):

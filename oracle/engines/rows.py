@@ -4,8 +4,8 @@ alone decides, with one thing that only the engine can say: which names of zones
 import collections
 import re
 
-from forms import (CHROMIUM, COMPACT_DATE, COMPACT_TIME, COMPACT_ZONE, DOTS, FIREFOX, KEY_BYTES, LONGEST, LOOKS_LIKE_A_DATE, SINGLE, VALUE_BYTES, ZONE_BYTES,
-                   nanoseconds)
+from forms import (CHROMIUM, COMPACT_DATE, COMPACT_TIME, COMPACT_ZONE, DOTS, FIREFOX, KEY_BYTES, LONGEST, LOOKS_LIKE_A_DATE, MORE, SINGLE, VALUE_BYTES,
+                   ZONE_BYTES, nanoseconds)
 
 LONG_TEXT = 21
 FINDER_NUL = 31
@@ -51,6 +51,7 @@ ROWS = {  # what each is about, and the engines that differ from the library the
     UNIT_TWICE: ("duration: a unit twice", (CHROMIUM,)),
     LARGE_DURATION: ("duration: 2^53 seconds or more", BOTH),
     WRAPPED: ("duration: numbers of 64 bits that wrap", (CHROMIUM,)),
+    MORE: ("a year-month or month-day with more after its brackets", (CHROMIUM,)),
 }
 
 # What was read of a text: a date, a clock in nanoseconds, an offset ("Z" or nanoseconds), names; None where absent. Of a duration: a list of numbers.
@@ -257,10 +258,13 @@ def iso(calendar):
 
 
 def refused_by_all(op, head, tail, calendar):
-    """What document 01 and the engines refuse alike: refusals 7, 9 and 11 to 13, and a time that is a date too."""
+    """What document 01 and the engines refuse alike: refusals 7, 9 and 11 to 13, a time that is a date too, and more after the brackets of a stamp or
+    a time."""
+    part_of_date = head.kind in ("year-month", "month-day")
     return (
         any(critical and key != "u-ca" for critical, key, _ in tail.notes)
-        or head.kind in ("year-month", "month-day") and not iso(calendar)
+        or part_of_date and not iso(calendar)
+        or not part_of_date and MORE in tail.wider
         or head.date is not None and not valid(head.date)
         or head.offset == "Z" and op not in ("zoned", "zuse", "instant", "cal")
         or op in ("zoned", "zuse") and tail.zone is None
@@ -337,8 +341,8 @@ def form_verdict(engine, op, text, head, tail, names):
         narrower.add(refused)
     if narrower:
         return REFUSED if wider else Verdict(min(narrower), ours, None)
-    # the month of another calendar may begin beyond the limit
-    either = op == "ym" and ours.date[:2] == (-271_821, 4) and converts(engine, op, theirs, names)
+    # a newer Chromium looks at what follows the brackets; the month of another calendar may begin beyond the limit
+    either = MORE in wider or op == "ym" and ours.date[:2] == (-271_821, 4) and converts(engine, op, theirs, names)
     return Verdict(min(wider), number(wider, head), theirs, either) if wider else Verdict(change, ours, theirs, either)
 
 
