@@ -1,5 +1,7 @@
 // The auditors' command: reads a log, one stamp to a line, from standard input or a named file, and says of each line in plain words what it is, or
 // why it is refused; a summary last.
+#![tactic(auto)]
+
 use audit_options::arguments::{Options, Task};
 
 // Nothing more can be done about output that is not taken but to say so: a program has no exit status.

@@ -1,5 +1,7 @@
 // The fields of a reading in plain words: `date 6 May 2024, time 10:15:30.5, offset +05:30, zone Europe/Berlin (critical)`. Times and offsets are
 // written by the library's own writers.
+#![tactic(auto)]
+
 ghost use Rattle.std.specs.Prelude.{◌+◌, ◌≤◌, ◌<◌, length};
 ghost use Rattle.audit_words.specs.Within.{Within};
 

@@ -1,5 +1,7 @@
 // The summary: how many lines there are of each kind and where the first of them is, the refusals by number, and the lines at which the year's width
 // changes.
+#![tactic(auto)]
+
 ghost use Rattle.std.specs.Prelude.{◌+◌, ◌≤◌, length};
 ghost use Rattle.audit_words.specs.Within.{Within};
 

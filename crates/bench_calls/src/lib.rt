@@ -1,5 +1,7 @@
 // For measuring only: calls of the face as exported functions over numbers and slices, one call each, so that a driver in C counts their instructions
 // (`bench/`) and a linker their bytes (`tools/size`). A record is made of numbers on the way in; on the way out a reading is one number, of every field.
+#![tactic(auto)]
+
 ghost use Rattle.std.specs.Prelude.{◌≡◌};
 ghost use Rattle.record.specs.declared.goal.Goal.TheVariants.{Stamp};
 ghost use Rattle.reader.specs.Goals.{read_goal, read_number};

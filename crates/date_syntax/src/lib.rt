@@ -1,4 +1,6 @@
 // The dates at the front of a text: `YYYY-MM-DD`, `YYYY-MM`, and `MM-DD` or `--MM-DD`. A year is four digits, or a sign and six.
+#![tactic(auto)]
+
 ghost use Rattle.std.specs.Prelude.{◌≡◌, drop};
 ghost use Rattle.names.specs.Field.{field};
 ghost use Rattle.date_syntax.specs.Read.{marked, four_of, six_of, plain, signed, year, year_len, date_of, date, year_month, after_date, after_year_month, dashes, month_day_of, month_day, after_month_day};

@@ -1,4 +1,6 @@
 // The text of a duration: its length, and its text written to a lent buffer.
+#![tactic(auto)]
+
 ghost use Rattle.std.specs.Prelude.{◌≡◌};
 ghost use Rattle.text.specs.Answer.{length_of, Wrote};
 ghost use Rattle.duration.specs.Duration.{duration_judged};

@@ -1,4 +1,6 @@
 // The reading of durations: the grammar of document 01, its refusals 5, 6, 8 and 14 in that order, and what an accepted text says.
+#![tactic(auto)]
+
 ghost use Rattle.std.specs.Prelude.{◌≡◌};
 ghost use Rattle.duration_reader.specs.Meaning.{read_duration};
 

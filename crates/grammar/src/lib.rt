@@ -1,4 +1,6 @@
 // Whole texts of document 01's reading grammar: stamps, times, year-months and month-days. Each reader gives what the text keeps of its tree, by value.
+#![tactic(auto)]
+
 ghost use Rattle.std.specs.Prelude.{◌≡◌};
 ghost use Rattle.grammar.specs.Read.{is_sep, is_lead, keep, clock_at, no_clock, after_clock, clock_if, after_if, stamp_from, stamp, time_from, time_text, year_month_text, month_day_text};
 

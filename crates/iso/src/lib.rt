@@ -1,5 +1,7 @@
 // The Gregorian rule, for every i32 year, and the checks of a date and a time of day. `magnitude` is the one function that computes with
 // a signed number.
+#![tactic(auto)]
+
 ghost use Rattle.std.specs.Prelude.{◌≡◌, ◌&&◌, leb, nat_abs};
 ghost use Rattle.iso.specs.Gregorian.{is_leap, days_in_month, valid_date};
 ghost use Rattle.iso.specs.TimeOfDay.{valid_time};

@@ -1,5 +1,7 @@
 // Month-days and year-months, their exact lengths, and their texts written to a lent buffer: the whole date where the calendar is Always or Critical or
 // not `iso8601`.
+#![tactic(auto)]
+
 ghost use Rattle.std.specs.Prelude.{true, ◌≡◌, ◌<◌};
 ghost use Rattle.text.specs.Put.{Room, Put, Count};
 ghost use Rattle.text.specs.Answer.{length_of, Wrote};

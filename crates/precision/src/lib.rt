@@ -1,4 +1,6 @@
 // How a precision shows the fraction of a second: times, offsets and durations write theirs by it.
+#![tactic(auto)]
+
 ghost use Rattle.std.specs.Prelude.{true, [], ◌∷◌, ◌≡◌};
 ghost use Rattle.text.specs.Put.{Room, Put, Count};
 ghost use Rattle.text.specs.Digits.{decimal};

@@ -1,5 +1,7 @@
 // The recogniser: whether a text is one that the writer of stamps writes, for some record with a date, separators on, under some settings. What is
 // read of the text is tested to be in the writer's one form; a text longer than any stamp is answered at once.
+#![tactic(auto)]
+
 ghost use Rattle.std.specs.Prelude.{◌≡◌};
 ghost use Rattle.meaning.specs.Shown.{Small};
 ghost use Rattle.recogniser.specs.Plain.{plain_year, plain_date, plain_fraction, plain_time, plain_utc, plain_clock, plain_zone, plain_notes, plain_tail, plain};

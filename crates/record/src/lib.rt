@@ -1,5 +1,7 @@
 // The records of stamps and durations, by value, with the settings that shape their texts, and what a reading gives. An optional part is an
 // enum of its own. A name is a place and a length in one text that is lent beside the record.
+#![tactic(auto)]
+
 pub mod duration;
 pub mod goal;
 pub mod shown;

@@ -1,5 +1,6 @@
 // Replays a list of vectors from standard input: each line that is answered otherwise than it says is printed with what was got, and
 // the last line counts them.
+#![tactic(auto)]
 
 fn main() {
     test_judge::list::judge_list(false)

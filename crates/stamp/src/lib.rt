@@ -1,4 +1,6 @@
 // The face of the library: every public type and call, and the two functions that firmware calls from C. Nothing is decided here.
+#![tactic(auto)]
+
 ghost use Rattle.std.specs.Prelude.{◌≡◌};
 ghost use Rattle.reader.specs.Parts.{checked};
 ghost use Rattle.stamp.specs.Export.{Answered};

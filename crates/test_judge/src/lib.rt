@@ -2,6 +2,8 @@
 // place: its function in `lines` or in `test_answers::checks`, and its line in `by_tag`. Such a function reads the inputs of the line from
 // place `at` on, calls the library, and puts what it answered into `got`, in the words of the line. The tags of the writers are in
 // `test_writers`, those of the readers in `test_readers`.
+#![tactic(auto)]
+
 pub mod lines;
 pub mod list;
 

@@ -1,4 +1,6 @@
 // For the test programs only: the fields of vector lines, and answers in their words.
+#![tactic(auto)]
+
 pub mod answer;
 pub mod buffer;
 pub mod fields;

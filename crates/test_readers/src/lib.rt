@@ -1,6 +1,8 @@
 // For the test programs only: what the readers answer to vector lines, in the words of these lines: tags R, Z, K, F, X and Q. Each function
 // reads the inputs of a line from place `at` on, asks the library, and puts what it answered into `got`. A tag is added in one place: its
 // function here, and its line in `judge`.
+#![tactic(auto)]
+
 use reader::goals::read_number;
 use record::reading_refusal;
 use test_lines::answer::add_number;

@@ -1,6 +1,8 @@
 // For the test programs only: what the writers and their length functions answer to vector lines, in the words of these lines: tags WD to
 // WP. A line is asked of both, the writer on the front of a blank paper, as much of it as the line says. A tag is added in one place: its
 // function here, and its name in `is_writers` and `asked`.
+#![tactic(auto)]
+
 use test_answers::written::{add_written, room_at};
 use test_lines::buffer::between;
 use test_lines::fields::LENT;

@@ -1,4 +1,6 @@
 // Bytes and digits: what every writer puts into a buffer and answers, and what every reader walks on.
+#![tactic(auto)]
+
 ghost use Rattle.std.specs.Prelude.{◌≡◌};
 ghost use Rattle.text.specs.Answer.{fit_of};
 

@@ -1,4 +1,6 @@
 // A time of day at the front of a text, and what says how it stands to UTC: the parts of document 01's reading grammar that are a time.
+#![tactic(auto)]
+
 ghost use Rattle.std.specs.Prelude.{◌≡◌};
 ghost use Rattle.time_syntax.specs.Read.{secs_at, secs_good, time_fits, time_of, time, base_of, past, after_time, zulu_byte, offset_of, utc, after_utc};
 

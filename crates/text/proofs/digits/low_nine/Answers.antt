@@ -1,0 +1,8 @@
+-- The loop's invariant: the digits from place i on are done, and `rest` is what is left of the value. Assumes nothing.
+use native.Mathlib.Omega.{arith}
+use lib.ListN.{length-set}
+use Rattle.text.proofs.DigitLaws.{split_more, split_div}
+use Rattle.text.proofs.digits.low_nine.Goals as goal
+
+pub loop-i-preserved : goal.loop-i-preserved
+loop-i-preserved c = (omega arith, rw length-set c.loop-i.invariant.1, rw c.loop-i.invariant.2 (split_div 9 c.loop-i.i c.args.value c.loop-i-test.true c.loop-i.invariant.0), rw c.loop-i.invariant.2 (split_more 9 c.loop-i.i c.args.value c.loop-i-test.true c.loop-i.invariant.0 c.loop-i.out c.loop-i.invariant.1 c.loop-i.invariant.3))
