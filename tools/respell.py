@@ -55,6 +55,18 @@ def names():
     return defs, lemmas, members
 
 
+def of_the_library():
+    """Names that some file imports from the toolchain's library: they are not ours to turn."""
+    own = {os.path.basename(p) for p in glob.glob("crates/*")}
+    out = set()
+    for p in glob.glob("crates/*/specs/**/*.antt", recursive=True) + glob.glob("crates/*/proofs/**/*.antt", recursive=True):
+        for module, items in re.findall(r"use (\S+)\.\{([^}]*)\}", read(p)):
+            parts = module.split(".")
+            if parts[0] != "Rattle" or parts[1] not in own:
+                out |= {i.split(" as ")[0].strip() for i in items.split(",")}
+    return out
+
+
 def source_fields():
     """Fields, parameters and constants of src/: a clause reads these names as they stand there."""
     out = set()
@@ -78,7 +90,7 @@ def joined(parts, known):
 def renames():
     defs, lemmas, members = names()
     known = {snake(n) for n in defs} | STD
-    new, taken = {}, {}
+    new, taken, theirs = {}, {}, of_the_library()
     for n in list(defs) + list(members) + [l for l in lemmas if "-" not in l]:
         if CAMEL.match(n) and "-" not in n:
             new[n] = snake(n)
@@ -95,7 +107,7 @@ def renames():
         taken[new[n]] = n
     # lemmas, and members of records and modules
     for n in sorted(set(lemmas) | set(members)):
-        if "-" not in n or n.startswith("-"):
+        if "-" not in n or n.startswith("-") or n in theirs:
             continue
         text = joined([snake(q) for q in n.split("-")], known)
         if text != n:

@@ -56,16 +56,16 @@ module _ (p : Precision) (n : TimeNumbers) {shown : Bool} (e : shown ≡ true) w
   length-seconds = ap length seconds_as ∙ simp length-append
 
 -- ---- something to write
-or_true : (a : Bool) → (a || true) ≡ true
-or_true true = refl
-or_true false = refl
+or-true : (a : Bool) → (a || true) ≡ true
+or-true true = refl
+or-true false = refl
 
 some-append : (a b : List ℕ) → some (a ++ b) ≡ (some a || some b)
 some-append [] b = refl
 some-append (x ∷ a) b = refl
 
 some_snoc : (a : List ℕ) (x : ℕ) → some (a ++ (x ∷ [])) ≡ true
-some_snoc a x = some-append a (x ∷ []) ∙ or_true (some a)
+some_snoc a x = some-append a (x ∷ []) ∙ or-true (some a)
 
 some-unit : (n letter : ℕ) → some (unit n letter) ≡ nonzero n
 unfolding unit

@@ -259,9 +259,9 @@ letter_sign b h e =
 
 -- ---- the whole
 
-or_true : (t : Bool) → (t || true) ≡ true
-or_true true = refl
-or_true false = refl
+or-true : (t : Bool) → (t || true) ≡ true
+or-true true = refl
+or-true false = refl
 
 date-some : (d : DateTree) → in_date (date_kept d) ≡ date_some d
 date-some d = rw (there_kept d.years, there_kept d.months, there_kept d.weeks, there_kept d.days)
@@ -272,7 +272,7 @@ time_in (marked b h m s) o = time-some h m s refl refl refl ∙ o.some
 
 time_good_lem : (t : TimeTree) → TimeOk t → time_good (time_kept t) ≡ true
 time_good_lem none o = refl
-time_good_lem (marked b h m s) o = rw (time_in (marked b h m s) o) (or_true (eqb b 0))
+time_good_lem (marked b h m s) o = rw (time_in (marked b h m s) o) (or-true (eqb b 0))
 
 -- at least one part: as the reader finds it, and as the grammar has it
 some_part : {p : DateParts} {q : TimeParts} (d : DateTree) (t : TimeTree) → p ≡ date_kept d → q ≡ time_kept t → TimeOk t

@@ -28,9 +28,9 @@ use Rattle.duration_syntax.specs.Read.{run, number_of, number_at, capital, fract
 use Rattle.duration_syntax.specs.Syntax.{PartTree, absent, whole, fractional, part_text, FractionOk, PartOk, part_kept}
 use Rattle.duration_syntax.proofs.RunLaws.{run_text, run_sound}
 
-and_false : (t : Bool) → (t && false) ≡ false
-and_false true = refl
-and_false false = refl
+and-false : (t : Bool) → (t && false) ≡ false
+and-false true = refl
+and-false false = refl
 
 -- ---- letters: a byte whose capital is one is past the digits and the points
 
@@ -47,7 +47,7 @@ module _ {upper : ℕ} (b : ℕ) (h : 65 ≤ upper) (e : capital b ≡ upper) wh
   letter_past = omega (arith, capital_le b)
 
   pub letter_digit : digit_byte b ≡ false
-  letter_digit = rw (lt-leb b 57 (omega (arith, letter_past)), and_false (leb 48 b))
+  letter_digit = rw (lt-leb b 57 (omega (arith, letter_past)), and-false (leb 48 b))
 
   pub letter_point : point_byte b ≡ false
   letter_point = rw (ne_eqb b 46 (λ z. omega (arith, letter_past)), ne_eqb b 44 (λ z. omega (arith, letter_past)))
@@ -105,7 +105,7 @@ fraction-past p fs r o = rw (point_some p o.point) (drop-shown fs r)
 module _ (upper : ℕ) (n : Number) (f : Fraction) (b : ℕ) where
   no_letter : (capital b ≡ upper → ⊥) → part_of upper n f b ≡ Part.Absent
   unfolding part_of part_fits
-  no_letter h = rw (ne_eqb (capital b) upper h, and_false (ltb 0 n.digits && (eqb f.point 0 || ltb 0 f.digits)))
+  no_letter h = rw (ne_eqb (capital b) upper h, and-false (ltb 0 n.digits && (eqb f.point 0 || ltb 0 f.digits)))
 
   fits : 0 < n.digits → (eqb f.point 0 || ltb 0 f.digits) ≡ true → capital b ≡ upper → part_of upper n f b ≡ Part.Is n f b
   unfolding part_of part_fits

@@ -1,6 +1,6 @@
 -- The leap rule is read off the magnitude; it is the rule by divisors over the integers, negative years too. Assumes nothing.
 use mathlib.Core.Path.{◌≡◌, refl, sym, ap, ◌∙◌}
-use mathlib.Core.Bool.{Bool, true, false, not, ◌||◌, and-eq-true_iff, or_true, false≢true}
+use mathlib.Core.Bool.{Bool, true, false, not, ◌||◌, and-eq-true_iff, or-true, false≢true}
 use mathlib.Core.Logic.{◌↔◌, ◌⊎◌, inl, inr}
 use Prim.Native.Nat.{ℕ, zero, suc, ◌*◌, ◌/◌, ◌%◌}
 use native.Mathlib.Nat.{mul-mod_left, div-add-mod'}
@@ -58,7 +58,7 @@ module _ (y : ℤ) where
   is_leap_lem : LeapYear y → is_leap y ≡ true
   unfolding is_leap leap_rule
   is_leap_lem (four, inl f) = rw (eq-eqb _ _ (no_rest four), ne_eqb _ _ (λ e. f (divided 100 y e)))
-  is_leap_lem (four, inr m) = rw (eq-eqb _ _ (no_rest four), eq-eqb _ _ (no_rest m), or_true)
+  is_leap_lem (four, inr m) = rw (eq-eqb _ _ (no_rest four), eq-eqb _ _ (no_rest m), or-true)
 
 pub leap_by_divisors : (y : ℤ) → (is_leap y ≡ true) ↔ LeapYear y
 leap_by_divisors y = (leap_year y, is_leap_lem y)

@@ -6,7 +6,7 @@
 --     utc-none, utc_zulu, utc_offset, ended      what follows it
 --     usual_day, usual_timed                     the answers
 use Rattle.std.proofs.Common.{◌≡◌, ℕ, zero, suc, ◌+◌, ◌-◌, ◌*◌, ◌/◌, ◌%◌, ◌<◌, ◌≤◌, Bool, true, false, cond, not, ◌&&◌, ◌||◌, eqb, ltb, leb, List, [], ◌∷◌, ◌++◌, length, get_or, drop, pos, refl, ap, ◌∙◌, add-zero, mul-le-mul_right, mul_assoc, add-mul, mul-le-mul_left, pow-suc, add-one, arith, drop_of_length-le, get_or-drop, drop-drop, ltb-false, ltb-true, le-ltb, lt-ltb, ne_eqb, eqb-true, le-leb, leb-true}
-use mathlib.Core.Bool.{or_true}
+use mathlib.Core.Bool.{or-true}
 use borrow.Author.Tests.{lt-leb}
 use Rattle.text.specs.Walk.{front}
 use Rattle.text.proofs.DigitLaws.{two, ten_pos}
@@ -228,7 +228,7 @@ end_is l e h = go (length l - e) refl h.rest
     go : (k : ℕ) → length l - e ≡ k → Rest l e k → end_byte (front (drop e l)) ≡ true
     go zero i r = rw (drop_of_length-le l {i = e} (omega arith)) refl
     go (suc zero) i r = rw (front-drop l e, r) refl
-    go (suc (suc k)) i r = rw (front-drop l e, r.1) (or_true (eqb (get_or l e 0) 90 || eqb (get_or l e 0) 0))
+    go (suc (suc k)) i r = rw (front-drop l e, r.1) (or-true (eqb (get_or l e 0) 90 || eqb (get_or l e 0) 0))
 
 -- nothing, `Z`, and an offset are read as what they are
 pub utc-none : (l : List ℕ) (e : ℕ) → length l - e ≡ 0 → utc (drop e l) ≡ UtcRead.Absent

@@ -4,7 +4,7 @@
 --     usual_most                              at most 30 bytes
 --     usually                                 what is kept of a stamp is its text
 use mathlib.Core.Path.{◌≡◌, refl, ap, ◌∙◌}
-use mathlib.Core.Bool.{Bool, true, false, cond, not, ◌||◌, or_true}
+use mathlib.Core.Bool.{Bool, true, false, cond, not, ◌||◌, or-true}
 use mathlib.Core.List.{List, [], ◌∷◌, ◌++◌, append_assoc, append-nil}
 use Prim.Native.Nat.{ℕ, ◌+◌, ◌<◌, ◌≤◌}
 use native.Mathlib.Omega.{arith}
@@ -94,4 +94,4 @@ pub usually : (s : Stamp) {d : Date} {t : Time} {r : ℕ} → s.zone ≡ zone.Ab
 unfolding stamp_judged fields_ok names_ok parts_ok stamp_text usual_text
 usually s {d} {t} {r} ez ec ed et eo h okd okt lent =
     let o = zulu_part s.offset r eo h in
-    rw (ez, ec, ed, et, o.0, o.1, okd, okt, or_true, append-nil, append-nil, append_assoc (date_text d) (84 ∷ []) (time_text t))
+    rw (ez, ec, ed, et, o.0, o.1, okd, okt, or-true, append-nil, append-nil, append_assoc (date_text d) (84 ∷ []) (time_text t))
