@@ -120,11 +120,15 @@ def renames():
     return new
 
 
-def turn(text, new):
+def turn(text, new, source=False, proof=False):
+    """In a file of src/ only what no function can be called is turned; in a function's proof no step (`.f-requires`) is."""
+
     def one(m):
         n = m[0]
         before = text[m.start() - 1] if m.start() else " "
-        if before == "." and "-" in n and not CAMEL.match(n):
+        if source and "-" not in n and not CAMEL.match(n):
+            return n
+        if proof and before == "." and "-" in n:
             return n
         if before in "'·-+₀" and "-" in n:
             return n
@@ -143,7 +147,7 @@ def main(argv):
     for p in sorted(glob.glob("crates/*/**/*", recursive=True)):
         if p.endswith((".antt", ".rt", ".edit")) and "/out/" not in p:
             t = read(p)
-            u = turn(t, new)
+            u = turn(t, new, p.endswith(".rt"), p.endswith("Proof.antt"))
             if u != t:
                 with open(p, "w", encoding="utf-8") as f:
                     f.write(u)

@@ -162,7 +162,7 @@ stamp_sound l g =
     let f = from_sound (date l) r a.1 b.1 in
     let w : StampTree = record { date = d.0; part = f.part; tail = f.tail } in (
       w,
-      record { date = d.1; part = f.ok; tail = f.ok-tail },
+      record { date = d.1; part = f.ok; tail = f.ok_tail },
       f.read ∙ date_is d.2,
       d.3 ∙ ap (λ (m : List ℕ). dates.date_text d.0 ++ m) f.text,
     )
@@ -235,13 +235,13 @@ time_text_sound l g = go (is_lead (front l)) refl g
     go true e g =
         let f = time_from_sound (front l) (drop 1 l) g in (
           record { lead = lead (front l); clock = f.clock; tail = f.tail },
-          record { lead = e; clock = f.ok; tail = f.ok-tail },
+          record { lead = e; clock = f.ok; tail = f.ok_tail },
           rw e f.read,
           front-cons l (no_zero_lead (front l) e) ∙ ap (λ (m : List ℕ). front l ∷ m) f.text,
         )
     go false e g =
         let f = time_from_sound 0 l g in
-        (record { lead = none; clock = f.clock; tail = f.tail }, record { lead = tt; clock = f.ok; tail = f.ok-tail }, rw e f.read, f.text)
+        (record { lead = none; clock = f.clock; tail = f.tail }, record { lead = tt; clock = f.ok; tail = f.ok_tail }, rw e f.read, f.text)
 
 pub time_text_exact : Exact TimeTextTree TimeTextRead time_text time_text_good time_text_text TimeTextOk time_text_kept
 time_text_exact = record { reads = time_text_reads; accepts = time_text_accepts; sound = time_text_sound }

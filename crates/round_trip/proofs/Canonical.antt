@@ -274,7 +274,7 @@ module _ (lent : List ℕ) (s : Stamp) (line : Line lent s) (d : Date) (e : s.da
       let c = calendar_part_text lent s.calendar in
       ap (λ (p : DatePart). date_part_text p ++ time_part_text (has_date p) s.time ++ o ++ z ++ c) e
       ∙ regroup (date_text d) t o z c
-      ∙ rw (date_text_lem d, part_text_lem s.time s.offset p.time-separated p.offset-separated p.timed, zone_text_lem lent s.zone, notes_text_lem lent s.calendar) refl
+      ∙ rw (date_text_lem d, part_text_lem s.time s.offset p.time_separated p.offset_separated p.timed, zone_text_lem lent s.zone, notes_text_lem lent s.calendar) refl
 
   canon_ok : trees.StampOk (canon lent d s)
   unfolding canon
