@@ -6,7 +6,7 @@ ghost use Rattle.names.specs.Field.{field};
 ghost use Rattle.date_syntax.specs.Read.{marked, four_of, six_of, plain, signed, year, year_len, date_of, date, year_month, after_date, after_year_month, dashes, month_day_of, month_day, after_month_day};
 
 // A year's sign and number, and whether it is written with a sign and six digits.
-#[derive(Drop)]
+#[derive(Clone, Copy)]
 pub enum YearRead {
     Is {
         negative: bool,
@@ -17,7 +17,7 @@ pub enum YearRead {
 }
 
 // A date that was read; a year-month has day 1.
-#[derive(Drop)]
+#[derive(Clone, Copy)]
 pub enum DateRead {
     Is {
         negative: bool,
@@ -30,7 +30,7 @@ pub enum DateRead {
 }
 
 // A month and a day that were read, and whether `--` stands before them.
-#[derive(Drop)]
+#[derive(Clone, Copy)]
 pub enum MonthDayRead {
     Is { dashes: bool, month: u8, day: u8 },
     Bad,

@@ -13,7 +13,7 @@ pub const MAX_32: u64 = 4294967295;
 
 pub const MAX_64: u64 = 18446744073709551615;
 
-#[derive(Drop)]
+#[derive(Clone, Copy)]
 pub struct TimeNumbers {
     pub hours: u64,
     pub minutes: u64,
@@ -22,7 +22,7 @@ pub struct TimeNumbers {
 }
 
 // The sign, seven numbers and nanoseconds; absent parts are 0.
-#[derive(Drop)]
+#[derive(Clone, Copy)]
 pub struct DurationShown {
     pub sign: Sign,
     pub years: u32,
@@ -35,7 +35,7 @@ pub struct DurationShown {
     pub nanoseconds: u32,
 }
 
-#[derive(Drop)]
+#[derive(Clone, Copy)]
 pub enum DurationReading {
     Accepted(DurationShown),
     Refused(u8),

@@ -3,14 +3,14 @@ ghost use Rattle.std.specs.Prelude.{◌≡◌, ◌<◌};
 ghost use Rattle.duration_syntax.specs.Read.{value_more, number_at};
 
 // A value of at most 64 bits; any larger one is only known to be larger.
-#[derive(Drop)]
+#[derive(Clone, Copy)]
 pub enum Value {
     Is(u64),
     Over,
 }
 
 // A count of digits, which may be 0, and what they stand for.
-#[derive(Drop)]
+#[derive(Clone, Copy)]
 pub struct Number {
     pub digits: usize,
     pub value: Value,

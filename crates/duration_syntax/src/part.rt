@@ -5,7 +5,7 @@ ghost use Rattle.duration_syntax.specs.Read.{capital, fraction_if, past_fraction
 use crate::number::Number;
 use time_syntax::fraction::Fraction;
 
-#[derive(Drop)]
+#[derive(Clone, Copy)]
 pub enum Part {
     Absent,
     Is {

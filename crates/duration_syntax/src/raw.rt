@@ -4,7 +4,7 @@ ghost use Rattle.duration_syntax.specs.Read.{there, date_at, after_date, time_pa
 
 use crate::part::Part;
 
-#[derive(Drop)]
+#[derive(Clone, Copy)]
 pub struct DateParts {
     pub years: Part,
     pub months: Part,
@@ -13,7 +13,7 @@ pub struct DateParts {
 }
 
 // The byte of `T`, or 0 where there is none, and the parts after it.
-#[derive(Drop)]
+#[derive(Clone, Copy)]
 pub struct TimeParts {
     pub mark: u8,
     pub hours: Part,
@@ -22,7 +22,7 @@ pub struct TimeParts {
 }
 
 // The byte of the sign, or 0 where there is none; the byte of `P`; the parts.
-#[derive(Drop)]
+#[derive(Clone, Copy)]
 pub struct DurationRaw {
     pub sign: u8,
     pub start: u8,
@@ -30,7 +30,7 @@ pub struct DurationRaw {
     pub time: TimeParts,
 }
 
-#[derive(Drop)]
+#[derive(Clone, Copy)]
 pub enum DurationRead {
     Is(DurationRaw),
     Bad,

@@ -9,7 +9,7 @@ use tail_syntax::TailRead;
 use time_syntax::{TimeRead, UtcRead};
 
 // A time of day and how it stands to UTC; where there is no time, these are Bad and Absent.
-#[derive(Drop)]
+#[derive(Clone, Copy)]
 pub struct ClockRead {
     pub timed: bool,
     pub time: TimeRead,
@@ -17,7 +17,7 @@ pub struct ClockRead {
 }
 
 // What is kept of a stamp text; `sep` is the separator's byte, 0 where there is none.
-#[derive(Drop)]
+#[derive(Clone, Copy)]
 pub struct StampRead {
     pub date: DateRead,
     pub sep: u8,
@@ -26,20 +26,20 @@ pub struct StampRead {
 }
 
 // What is kept of a time text; `lead` is the byte before the time, 0 where there is none.
-#[derive(Drop)]
+#[derive(Clone, Copy)]
 pub struct TimeTextRead {
     pub lead: u8,
     pub clock: ClockRead,
     pub tail: TailRead,
 }
 
-#[derive(Drop)]
+#[derive(Clone, Copy)]
 pub struct YearMonthRead {
     pub date: DateRead,
     pub tail: TailRead,
 }
 
-#[derive(Drop)]
+#[derive(Clone, Copy)]
 pub struct MonthDayTextRead {
     pub day: MonthDayRead,
     pub tail: TailRead,

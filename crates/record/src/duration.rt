@@ -1,7 +1,7 @@
 // Durations, with the settings of their text.
 use crate::stamp::{Precision, Sign};
 
-#[derive(Drop)]
+#[derive(Clone, Copy)]
 pub struct DateDuration {
     pub years: u32,
     pub months: u32,
@@ -9,14 +9,14 @@ pub struct DateDuration {
     pub days: u64,
 }
 
-#[derive(Drop)]
+#[derive(Clone, Copy)]
 pub enum DateDurationPart {
     Absent,
     Is(DateDuration),
 }
 
 // The largest unit that is kept; a fraction is in nanoseconds, 0 where there is none.
-#[derive(Drop)]
+#[derive(Clone, Copy)]
 pub enum TimeDuration {
     Absent,
     Hours {
@@ -36,7 +36,7 @@ pub enum TimeDuration {
     },
 }
 
-#[derive(Drop)]
+#[derive(Clone, Copy)]
 pub struct Duration {
     pub precision: Precision,
     pub sign: Sign,

@@ -2,7 +2,7 @@
 ghost use Rattle.std.specs.Prelude.{◌≡◌};
 ghost use Rattle.record.specs.Goals.{goal_number, goal_of};
 
-#[derive(Drop)]
+#[derive(Clone, Copy)]
 pub enum Goal {
     Stamp,
     Plain,
@@ -13,7 +13,7 @@ pub enum Goal {
     MonthDay,
 }
 
-#[derive(Drop)]
+#[derive(Clone, Copy)]
 pub enum GoalChoice {
     Is(Goal),
     Unknown,

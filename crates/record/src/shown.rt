@@ -4,39 +4,39 @@ ghost use Rattle.record.specs.Refusals.{refusal_of};
 
 use crate::stamp::{Clock, DatePart, Name};
 
-#[derive(Drop)]
+#[derive(Clone, Copy)]
 pub enum ClockPart {
     Absent,
     Is(Clock),
 }
 
 // The sign is kept also at zero: `-00:00` is negative.
-#[derive(Drop)]
+#[derive(Clone, Copy)]
 pub struct SignedClock {
     pub negative: bool,
     pub clock: Clock,
 }
 
-#[derive(Drop)]
+#[derive(Clone, Copy)]
 pub enum ShownOffset {
     Absent,
     Z,
     Is(SignedClock),
 }
 
-#[derive(Drop)]
+#[derive(Clone, Copy)]
 pub struct MarkedName {
     pub name: Name,
     pub critical: bool,
 }
 
-#[derive(Drop)]
+#[derive(Clone, Copy)]
 pub enum NamePart {
     Absent,
     Is(MarkedName),
 }
 
-#[derive(Drop)]
+#[derive(Clone, Copy)]
 pub struct Shown {
     pub date: DatePart,
     pub time: ClockPart,
@@ -45,7 +45,7 @@ pub struct Shown {
     pub calendar: NamePart,
 }
 
-#[derive(Drop)]
+#[derive(Clone, Copy)]
 pub enum Reading {
     Accepted(Shown),
     Refused(u8),

@@ -2,21 +2,21 @@
 ghost use Rattle.std.specs.Prelude.{◌≡◌};
 ghost use Rattle.record.specs.Steps.{nanosecond_of, no_parts, with_date, with_time, with_offset, with_minute_offset, with_z, with_timezone, with_calendar};
 
-#[derive(Drop)]
+#[derive(Clone, Copy)]
 pub struct Date {
     pub year: i32,
     pub month: u8,
     pub day: u8,
 }
 
-#[derive(Drop)]
+#[derive(Clone, Copy)]
 pub enum DatePart {
     Absent,
     Is(Date),
 }
 
 // A time of day without settings.
-#[derive(Drop)]
+#[derive(Clone, Copy)]
 pub struct Clock {
     pub hour: u8,
     pub minute: u8,
@@ -24,90 +24,90 @@ pub struct Clock {
     pub nanosecond: u32,
 }
 
-#[derive(Drop)]
+#[derive(Clone, Copy)]
 pub enum Precision {
     Auto,
     Minute,
     Digit(u8),
 }
 
-#[derive(Drop)]
+#[derive(Clone, Copy)]
 pub struct Time {
     pub clock: Clock,
     pub precision: Precision,
     pub include_sep: bool,
 }
 
-#[derive(Drop)]
+#[derive(Clone, Copy)]
 pub enum TimePart {
     Absent,
     Is(Time),
 }
 
-#[derive(Drop)]
+#[derive(Clone, Copy)]
 pub enum Sign {
     Negative,
     Zero,
     Positive,
 }
 
-#[derive(Drop)]
+#[derive(Clone, Copy)]
 pub struct SignedTime {
     pub sign: Sign,
     pub time: Time,
 }
 
-#[derive(Drop)]
+#[derive(Clone, Copy)]
 pub enum UtcOffset {
     Z,
     Offset(SignedTime),
 }
 
-#[derive(Drop)]
+#[derive(Clone, Copy)]
 pub enum DisplayOffset {
     Auto,
     Never,
 }
 
-#[derive(Drop)]
+#[derive(Clone, Copy)]
 pub struct Offset {
     pub show: DisplayOffset,
     pub offset: UtcOffset,
 }
 
-#[derive(Drop)]
+#[derive(Clone, Copy)]
 pub enum OffsetPart {
     Absent,
     Is(Offset),
 }
 
 // A place and a length in the text that is lent beside the record.
-#[derive(Drop)]
+#[derive(Clone, Copy)]
 pub struct Name {
     pub at: usize,
     pub len: usize,
 }
 
-#[derive(Drop)]
+#[derive(Clone, Copy)]
 pub enum DisplayTimeZone {
     Auto,
     Never,
     Critical,
 }
 
-#[derive(Drop)]
+#[derive(Clone, Copy)]
 pub struct Zone {
     pub show: DisplayTimeZone,
     pub name: Name,
 }
 
-#[derive(Drop)]
+#[derive(Clone, Copy)]
 pub enum ZonePart {
     Absent,
     Is(Zone),
 }
 
-#[derive(Drop)]
+#[derive(Clone, Copy)]
 pub enum DisplayCalendar {
     Auto,
     Always,
@@ -115,19 +115,19 @@ pub enum DisplayCalendar {
     Critical,
 }
 
-#[derive(Drop)]
+#[derive(Clone, Copy)]
 pub struct Calendar {
     pub show: DisplayCalendar,
     pub name: Name,
 }
 
-#[derive(Drop)]
+#[derive(Clone, Copy)]
 pub enum CalendarPart {
     Absent,
     Is(Calendar),
 }
 
-#[derive(Drop)]
+#[derive(Clone, Copy)]
 pub struct Stamp {
     pub date: DatePart,
     pub time: TimePart,

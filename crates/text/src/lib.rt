@@ -10,14 +10,14 @@ pub mod refusal;
 pub mod walk;
 
 // What a length function answers: the exact length, or a refusal's number.
-#[derive(Drop)]
+#[derive(Clone, Copy)]
 pub enum LengthAnswer {
     Length(usize),
     Refused(u8),
 }
 
 // What a writer answers: the count of bytes written, or a refusal's number.
-#[derive(Drop)]
+#[derive(Clone, Copy)]
 pub enum WriteAnswer {
     Written(usize),
     Refused(u8),

@@ -9,7 +9,7 @@ pub mod fraction;
 use fraction::Fraction;
 
 // What follows `HH:MM`: whether `:SS` is there, its second (100 where it is none), and the fraction; all 0 where there is nothing.
-#[derive(Drop)]
+#[derive(Clone, Copy)]
 pub struct Secs {
     pub seconds: bool,
     pub second: u8,
@@ -52,7 +52,7 @@ pub fn time_fits(hour: u8, mark: u8, minute: u8, s: Secs) -> bool
 }
 
 // A time that was read. Whether `:SS` is there; the byte of the point, or 0; the digits of the fraction, and the nanoseconds that the first nine make.
-#[derive(Drop)]
+#[derive(Clone, Copy)]
 pub enum TimeRead {
     Is {
         hour: u8,
@@ -132,7 +132,7 @@ pub fn after_time<'a>(t: &'a [u8], r: TimeRead) -> &'a [u8]
 }
 
 // An offset that was read: its sign, and a time.
-#[derive(Drop)]
+#[derive(Clone, Copy)]
 pub struct OffsetRead {
     pub negative: bool,
     pub hour: u8,
@@ -145,7 +145,7 @@ pub struct OffsetRead {
 }
 
 // How a time stands to UTC: nothing is said, `Z` in either case, or an offset. Bad where a sign has no offset of the grammar.
-#[derive(Drop)]
+#[derive(Clone, Copy)]
 pub enum UtcRead {
     Absent,
     Z(u8),
