@@ -20,7 +20,7 @@ small b w e = mul-le-mul_right w (omega (arith, (digit_range b e).1))
 pub loop-i-preserved : goal.loop-i-preserved
 loop-i-preserved c =
     let d : digit_byte (get_or c.args.t.now c.loop-i.i 0) ≡ true = sym c.is_digit.ensures ∙ c.if-is_digit.true in
-    (search rules, omega (arith, small _ c.loop-i.weight d), sym (one _ _ c.loop-i.i c.loop-i.i c.loop-i.weight c.loop-i.nanos c.loop-i-test.true d) ∙ c.loop-i.invariant.2)
+    (search rules, omega (arith, small (get_or c.args.t.now c.loop-i.i 0) c.loop-i.weight d), sym (one _ _ c.loop-i.i c.loop-i.i c.loop-i.weight c.loop-i.nanos c.loop-i-test.true d) ∙ c.loop-i.invariant.2)
 
 pub returns-else-is_digit : goal.returns-else-is_digit
 unfolding fraction_of
