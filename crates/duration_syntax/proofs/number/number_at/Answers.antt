@@ -5,8 +5,9 @@ use native.Mathlib.Omega.{arith}
 use mathlib.Core.Bool.{true}
 use mathlib.Core.List.{List, [], ◌∷◌}
 use mathlib.Core.Path.{◌≡◌, sym, ap, ◌∙◌}
-use lib.ListN.{length, drop}
+use lib.ListN.{length, get_or, drop}
 use Rattle.text.specs.Digits.{value_from}
+use Rattle.names.specs.Grammar.{digit_byte}
 use Rattle.duration_syntax.specs.declared.number.Value.{Value}
 use Rattle.duration_syntax.specs.declared.number.Number.{Number}
 use Rattle.duration_syntax.specs.Read.{value_is, value_more, run, number_at}
@@ -37,7 +38,9 @@ whole t i v e (n, f, g, h) =
     cc
 
 pub loop-i-preserved : goal.loop-i-preserved
-loop-i-preserved c = let e = run_more c.args.t.now c.loop-i.i c.loop-i-test.true (is_digit c) in
+loop-i-preserved c = 
+    let is_digit : digit_byte (get_or c.args.t.now c.loop-i.i 0) ≡ true = sym c.is_digit.ensures ∙ c.if-is_digit.true in
+    let e = run_more c.args.t.now c.loop-i.i c.loop-i-test.true (is_digit) in
     (omega arith, rw c.more-value.ensures (another c.args.t.now c.loop-i.i c.loop-i.value _ e c.loop-i.invariant.1))
 
 pub returns-else-is_digit : goal.returns-else-is_digit

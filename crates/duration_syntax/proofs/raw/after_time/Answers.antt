@@ -10,9 +10,9 @@ returns-then-p-eq0 c = search tests
 pub returns : goal.returns
 unfolding after_time
 returns c = search (
-      tests,
-      c.after_part-2.ensures,
-      c.after_part.ensures,
-      c.after_part-after_hours.ensures,
-      c.rest.ensures,
-    )
+  tests,
+  c.after_part-2.ensures,
+  c.after_part.ensures,
+  c.after_part-after_hours.ensures,
+  c.rest.ensures,
+)

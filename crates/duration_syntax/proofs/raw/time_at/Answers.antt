@@ -6,12 +6,12 @@ use Rattle.duration_syntax.proofs.raw.time_at.Goals as goal
 pub returns-then-capital_of-eq84 : goal.returns-then-capital_of-eq84
 unfolding time_at
 returns-then-capital_of-eq84 c = search (
-      tests,
-      c.time_parts_at.ensures,
-      c.rest.ensures,
-      ← c.first-b.ensures,
-      ← c.capital_of.ensures,
-    )
+  tests,
+  c.time_parts_at.ensures,
+  c.rest.ensures,
+  ← c.first-b.ensures,
+  ← c.capital_of.ensures,
+)
 
 pub returns : goal.returns
 unfolding time_at
