@@ -10,19 +10,19 @@ unfolding fraction_of
 loop-i-init c = (omega arith, omega (arith, c.requires), omega arith, refl)
 
 pub overflow_mul-v : goal.overflow_mul-v
-overflow_mul-v c = 
+overflow_mul-v c =
     let inside : (c.loop-i.i) < c.args.end = c.loop-i-test.true in
     let grown : (((c.loop-i.v) * 10 + (c.low-d.result) + 1) * unit ((c.loop-i.i) - 20 + 1) ≤ 1000000000) × ((c.loop-i.v) * 10 + (c.low-d.result) < 1000000000) = more (c.loop-i.v) (c.low-d.result) ((c.loop-i.i) - 20) c.if-d-ge10.false (omega (arith, inside, c.requires.1)) c.loop-i.invariant.2 in
     omega (arith, grown)
 
 pub overflow_add-v : goal.overflow_add-v
-overflow_add-v c = 
+overflow_add-v c =
     let inside : (c.loop-i.i) < c.args.end = c.loop-i-test.true in
     let grown : (((c.loop-i.v) * 10 + (c.low-d.result) + 1) * unit ((c.loop-i.i) - 20 + 1) ≤ 1000000000) × ((c.loop-i.v) * 10 + (c.low-d.result) < 1000000000) = more (c.loop-i.v) (c.low-d.result) ((c.loop-i.i) - 20) c.if-d-ge10.false (omega (arith, inside, c.requires.1)) c.loop-i.invariant.2 in
     omega (arith, grown)
 
 pub loop-i-preserved : goal.loop-i-preserved
-loop-i-preserved c = 
+loop-i-preserved c =
     let inside : (c.loop-i.i) < c.args.end = c.loop-i-test.true in
     let grown : (((c.loop-i.v) * 10 + (c.low-d.result) + 1) * unit ((c.loop-i.i) - 20 + 1) ≤ 1000000000) × ((c.loop-i.v) * 10 + (c.low-d.result) < 1000000000) = more (c.loop-i.v) (c.low-d.result) ((c.loop-i.i) - 20) c.if-d-ge10.false (omega (arith, inside, c.requires.1)) c.loop-i.invariant.2 in
     let k : (c.loop-i.i) + 1 - 20 ≡ (c.loop-i.i) - 20 + 1 = omega (arith, c.loop-i.invariant.0) in (

@@ -5,7 +5,7 @@ use Rattle.kinds.proofs.UsualLaws.{nine_digits}
 use Rattle.kinds.proofs.usual.nine.Goals as goal
 
 pub returns-then-a-b : goal.returns-then-a-b
-returns-then-a-b c = 
+returns-then-a-b c h =
     let parts : ((c.pair_at-a.result < 100) × (c.pair_at-b.result < 100) × (c.pair_at-c.result < 100) × (c.pair_at-d.result < 100) × (c.low-e.result < 10)) = let t = both _ (ltb c.low-e.result 10) c.if-a-b.true in
     let d = both _ (ltb c.pair_at-d.result 100) t.0 in
     let e = both _ (ltb c.pair_at-c.result 100) d.0 in
