@@ -5,7 +5,7 @@ ghost use Rattle.duration.specs.Duration.{date_numbers, time_numbers, no_date, i
 use record::{DateDuration, DateDurationPart, Duration, Precision, Sign, TimeDuration};
 
 // The numbers of a time, whatever its largest unit; the fraction is in nanoseconds.
-#[derive(Drop)]
+#[derive(Clone, Copy)]
 pub struct TimeNumbers {
     pub hours: u64,
     pub minutes: u64,

@@ -5,7 +5,7 @@ ghost use Rattle.tail_writer.specs.Annotation.{name_in, NameFits, bracketed, ann
 
 use record::Name;
 
-#[derive(Drop)]
+#[derive(Clone, Copy)]
 pub enum Mark {
     Hidden,
     Plain,

@@ -13,7 +13,7 @@ use record::{
 };
 
 // What is kept of such a stamp, its year as a number of four digits; Other where it is none.
-#[derive(Drop)]
+#[derive(Clone, Copy)]
 pub enum Usual {
     Is {
         year: u32,
