@@ -1,0 +1,18 @@
+-- `partial_writer::year_month_length` meets its contract: the tests in their order decide between the refusals and the length. Assumes nothing.
+use mathlib.Core.Path.{ap, sym, ◌∙◌}
+use Rattle.text.specs.declared.LengthAnswer.TheVariants as len
+use Rattle.partial_writer.specs.Partial.{year_month_judged}
+use Rattle.partial_writer.proofs.year_month_length.Goals as goal
+
+pub returns-then-calendar_ok : goal.returns-then-calendar_ok
+unfolding year_month_judged
+returns-then-calendar_ok c = rw (sym c.date_ok.ensures ∙ c.if-date_ok.true, sym c.calendar_ok.ensures ∙ c.if-calendar_ok.true)
+    (ap len.Length c.year_month_bytes.ensures.count)
+
+pub returns-then-date_ok : goal.returns-then-date_ok
+unfolding year_month_judged
+returns-then-date_ok c = rw (sym c.date_ok.ensures ∙ c.if-date_ok.true, sym c.calendar_ok.ensures ∙ c.if-calendar_ok.false)
+
+pub returns : goal.returns
+unfolding year_month_judged
+returns c = rw (sym c.date_ok.ensures ∙ c.if-date_ok.false)
