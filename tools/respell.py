@@ -105,6 +105,14 @@ def renames():
         elif other:
             sys.exit(f"respell: {n} and {other} fall together at {new[n]}")
         taken[new[n]] = n
+    # a theorem that a crate hands on cannot have the name of a function
+    functions = {(p.split("/")[1], f) for p in glob.glob("crates/*/src/*.rt") for f in re.findall(r"\bfn (\w+)", read(p))}
+    for p in glob.glob("crates/*/proofs/Lib.antt"):
+        for items in re.findall(r"(?m)^pub use \S+\.\{([^}]*)\}", read(p)):
+            for n in (i.strip() for i in items.split(",")):
+                if n in lemmas and (lemmas[n].split("/")[1], n) in functions:
+                    new[n] = n + "_lem"
+                    taken[new[n]] = n
     # lemmas, and members of records and modules
     for n in sorted(set(lemmas) | set(members)):
         if "-" not in n or n.startswith("-") or n in theirs:
@@ -120,13 +128,13 @@ def renames():
     return new
 
 
-def turn(text, new, source=False, proof=False):
-    """In a file of src/ only what no function can be called is turned; in a function's proof no step (`.f-requires`) is."""
+def turn(text, new, source=False, proof=False, page=False):
+    """In a file of src/, and in a page, only what no function can be called is turned; in a function's proof no step (`.f-requires`) is."""
 
     def one(m):
         n = m[0]
         before = text[m.start() - 1] if m.start() else " "
-        if source and "-" not in n and not CAMEL.match(n):
+        if (source or page) and "-" not in n and not CAMEL.match(n):
             return n
         if proof and before == "." and "-" in n:
             return n
@@ -153,7 +161,7 @@ def main(argv):
                     f.write(u)
     for p in ["README.md", "tools/picture"] + sorted(glob.glob("docs/*.md")) + sorted(glob.glob("oracle/**/*.md", recursive=True)):
         t = read(p)
-        u = re.sub(r"`[^`\n]*`", lambda m: turn(m[0], new), t) if p.endswith(".md") else t
+        u = re.sub(r"`[^`\n]*`", lambda m: turn(m[0], new, page=True), t) if p.endswith(".md") else t
         if u != t:
             with open(p, "w", encoding="utf-8") as f:
                 f.write(u)

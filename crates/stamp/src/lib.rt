@@ -1,4 +1,4 @@
-// The face of the library: every public type and call, and the two functions that firmware calls from C. Nothing is decided here.
+// The face of the library: every public type and call, and the two functions that firmware calls from C by way of `stamp_c`. Nothing is decided here.
 #![tactic(auto)]
 
 ghost use Rattle.std.specs.Prelude.{◌≡◌};
@@ -44,16 +44,14 @@ pub use recogniser::recognise;
 pub use round_trip::there_and_back;
 
 // For C: 1 if the text is one that this library writes of some stamp with a date, separators on; else 0.
-#[unsafe(no_mangle)]
-pub extern "C" fn stamp_recognise(text: &[u8]) -> u32
+pub fn stamp_recognise(text: &[u8]) -> u32
     ensures { Answered text.now result }
 {
     if recogniser::recognise(text) { 1 } else { 0 }
 }
 
 // For C: 0 if the text is accepted for the goal of that number, else the refusal's number; 15 before all others for a goal above 6.
-#[unsafe(no_mangle)]
-pub extern "C" fn stamp_check(goal: u32, text: &[u8]) -> u32
+pub fn stamp_check(goal: u32, text: &[u8]) -> u32
     ensures { result ≡ checked goal text.now }
 {
     reader::parts::check(goal, text) as u32
