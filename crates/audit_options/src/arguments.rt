@@ -22,7 +22,7 @@ pub enum Task {
     Complain { what: Fault, at: usize },
 }
 
-#[derive(Drop)]
+#[derive(Clone, Copy)]
 pub struct Options {
     pub task: Task,
     // The goal's number.
@@ -74,7 +74,7 @@ impl Options {
 }
 
 // What a word of the arguments is.
-#[derive(Drop)]
+#[derive(Clone, Copy)]
 enum Word {
     Help,
     From(u8),

@@ -7,7 +7,7 @@ use text::walk::part;
 pub type Out = [u8; 65536];
 
 // How many bytes wait, and whether all that was written out before them was taken.
-#[derive(Drop)]
+#[derive(Clone, Copy)]
 pub struct Waiting {
     pub bytes: usize,
     pub ok: bool,
