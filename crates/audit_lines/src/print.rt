@@ -8,7 +8,7 @@ use text::put::put_bytes;
 // The head of the columns, where rows are printed.
 pub fn head(from: u8, out: &mut Out) -> usize {
     if from <= 2 {
-        return put_bytes(out, 0, b"     line  width  text\n");
+        return put_bytes(&mut out.bytes, 0, b"     line  width  text\n");
     }
     0
 }
@@ -37,7 +37,7 @@ fn print(
             ok: state.ok,
         },
     );
-    let n = put_row(out, w.bytes, state.lines, width, line, v, change);
+    let n = put_row(&mut out.bytes, w.bytes, state.lines, width, line, v, change);
     state.printed(n, w.ok)
 }
 

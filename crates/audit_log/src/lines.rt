@@ -7,8 +7,10 @@ use audit_lines::print::{head, print_from};
 use audit_run::line::{Kept, feed_from, keep, last_of, width_without_return, without_return};
 use audit_run::output::Out;
 use audit_run::state::State;
+use audit_run::told::fail;
 use audit_tally::counts::{Table, note_change, note_kind, one_more};
 use audit_tally::kinds::{change_of, kind_of, year_width};
+use std::io::{Error, ErrorKind, Read};
 use text::walk::part;
 
 // A whole line without its end. `line` is its start, and all of it where it is not too long.
@@ -136,16 +138,19 @@ fn feed(
 }
 
 // A read that failed: one that a signal interrupted is made again.
-fn after_failure(state: State) -> State {
-    if os::errno() == libc::EINTR {
-        return state;
+fn after_failure(told: &impl Print, error: Error, state: State) -> State {
+    match error.kind() {
+        ErrorKind::Interrupted => state,
+        _ => {
+            fail(told, b"audit: the log", error);
+            state.broken()
+        }
     }
-    os::fail(b"audit: the log");
-    state.broken()
 }
 
 fn step(
-    fd: i32,
+    log: &mut impl Read,
+    told: &impl Print,
     goal: u32,
     from: u8,
     kept: &mut Kept,
@@ -153,21 +158,18 @@ fn step(
     counts: &mut Table,
     state: State,
 ) -> State {
-    let mut buf = io::large_buffer();
-    let got = libc::read(fd, &mut buf);
-    if got < 0 {
-        return after_failure(state);
+    let mut buf = [0u8; 65536];
+    match log.read(&mut buf) {
+        Ok(0) => state.ended(),
+        Ok(n) => feed(goal, from, &buf[..n], kept, out, counts, state),
+        Err(error) => after_failure(told, error, state),
     }
-    if got == 0 {
-        return state.ended();
-    }
-    let n = io::count(got, &buf);
-    feed(goal, from, &buf[..n], kept, out, counts, state)
 }
 
 // A proved loop has to end, and nothing says that an input does: the turns count down from a number that no run uses up.
 fn read_all(
-    fd: i32,
+    log: &mut impl Read,
+    told: &impl Print,
     goal: u32,
     from: u8,
     kept: &mut Kept,
@@ -178,7 +180,7 @@ fn read_all(
     let mut state = start;
     let mut turns = u64::MAX;
     while turns > 0 && state.more {
-        state = step(fd, goal, from, kept, out, counts, state);
+        state = step(log, told, goal, from, kept, out, counts, state);
         turns -= 1;
     }
     state
@@ -207,9 +209,10 @@ fn take_last(
     )
 }
 
-// Every line of a log, for a goal; those that weigh `from` or more are printed.
+// Every line of a log, for a goal; those that weigh `from` or more are printed. A read that fails is told on `told`, which is standard error.
 pub fn run(
-    fd: i32,
+    log: &mut impl Read,
+    told: &impl Print,
     goal: u32,
     from: u8,
     kept: &mut Kept,
@@ -218,7 +221,8 @@ pub fn run(
 ) -> State {
     let n = head(from, out);
     let state = read_all(
-        fd,
+        log,
+        told,
         goal,
         from,
         kept,

@@ -1,9 +1,10 @@
 // What the arguments ask for.
 use audit_words::words::put_goal;
+use std::env::{Env, FillError};
 use text::walk::{first, part, rest, same};
 
 // What is wrong with the arguments.
-#[derive(Drop)]
+#[derive(Clone, Copy)]
 pub enum Fault {
     TooLong,
     NoOption,
@@ -13,7 +14,7 @@ pub enum Fault {
 }
 
 // What is to be done. A file and a fault are told by the number of their argument.
-#[derive(Drop)]
+#[derive(Clone, Copy)]
 pub enum Task {
     Input,
     File(usize),
@@ -21,7 +22,7 @@ pub enum Task {
     Complain { what: Fault, at: usize },
 }
 
-#[derive(Drop)]
+#[derive(Clone, Copy)]
 pub struct Options {
     pub task: Task,
     // The goal's number.
@@ -73,7 +74,7 @@ impl Options {
 }
 
 // What a word of the arguments is.
-#[derive(Drop)]
+#[derive(Clone, Copy)]
 enum Word {
     Help,
     From(u8),
@@ -179,13 +180,12 @@ fn follow_word(options: Options, word: &[u8], i: usize) -> Options {
     follow(options, word, i)
 }
 
-fn follow_argument(options: Options, i: usize) -> Options {
-    let mut word = io::buffer();
-    let n = os::arg(i, &mut word);
-    if os::errno() != 0 {
-        return options.with_fault(Fault::TooLong, i);
+fn follow_argument(env: &impl Env, options: Options, i: usize) -> Options {
+    let mut word = [0u8; 4096];
+    match env.arg(i, &mut word) {
+        Ok(n) => follow_word(options, &word[..n], i),
+        Err(_) => options.with_fault(Fault::TooLong, i),
     }
-    follow_word(options, &word[..n], i)
 }
 
 // After a fault, and after `--help`, nothing more is looked at.
@@ -198,19 +198,19 @@ fn is_settled(task: Task) -> bool {
     }
 }
 
-fn next(options: Options, i: usize) -> Options {
+fn next(env: &impl Env, options: Options, i: usize) -> Options {
     let task = options.task;
     if is_settled(task) {
         return options;
     }
-    follow_argument(options, i)
+    follow_argument(env, options, i)
 }
 
-fn follow_all(count: usize) -> Options {
+fn follow_all(env: &impl Env, count: usize) -> Options {
     let mut options = Options::new();
     let mut i = 1;
     while i < count {
-        options = next(options, i);
+        options = next(env, options, i);
         i += 1;
     }
     options
@@ -223,30 +223,50 @@ fn checked(options: Options, count: usize) -> Options {
     options
 }
 
-pub fn read() -> Options {
-    let count = os::arg_count();
-    checked(follow_all(count), count)
-}
-
-fn say(s: &[u8]) {
-    io::write_all(libc::STDERR_FILENO, s);
-}
-
-fn say_fault(what: Fault) {
-    match what {
-        Fault::TooLong => say(b"audit: an argument is too long"),
-        Fault::NoOption => say(b"audit: no such option: "),
-        Fault::NoGoal => say(b"audit: no such goal: "),
-        Fault::GoalMissing => say(b"audit: --goal wants a goal after it"),
-        Fault::SecondFile => say(b"audit: one log at a time, and this is the second: "),
+// Whether there is an argument i, however long it is.
+fn is_argument(env: &impl Env, i: usize) -> bool {
+    match env.arg(i, &mut []) {
+        Ok(_) => true,
+        Err(FillError::TooLong) => true,
+        Err(FillError::NotPresent) => false,
     }
 }
 
-// Says on standard error what is wrong with the arguments.
-pub fn complain(what: Fault, at: usize) {
-    let mut word = io::buffer();
-    let n = os::arg(at, &mut word);
-    say_fault(what);
-    say(&word[..n]);
-    say(b"\naudit: --help says how it is used\n");
+// How many arguments the program was started with, its own name among them.
+fn argument_count(env: &impl Env) -> usize {
+    for i in 0..usize::MAX {
+        if !is_argument(env, i) {
+            return i;
+        }
+    }
+    usize::MAX
+}
+
+pub fn read(env: &impl Env) -> Options {
+    let count = argument_count(env);
+    checked(follow_all(env, count), count)
+}
+
+fn say(to: &impl Print, s: &[u8]) {
+    let _ = to.write_all(s);
+}
+
+fn say_fault(to: &impl Print, what: Fault) {
+    match what {
+        Fault::TooLong => say(to, b"audit: an argument is too long"),
+        Fault::NoOption => say(to, b"audit: no such option: "),
+        Fault::NoGoal => say(to, b"audit: no such goal: "),
+        Fault::GoalMissing => say(to, b"audit: --goal wants a goal after it"),
+        Fault::SecondFile => say(to, b"audit: one log at a time, and this is the second: "),
+    }
+}
+
+// Says what is wrong with the arguments; `to` is standard error.
+pub fn complain(env: &impl Env, to: &impl Print, what: Fault, at: usize) {
+    let mut word = [0u8; 4096];
+    say_fault(to, what);
+    if let Ok(n) = env.arg(at, &mut word) {
+        say(to, &word[..n]);
+    }
+    say(to, b"\naudit: --help says how it is used\n");
 }

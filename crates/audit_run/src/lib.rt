@@ -4,3 +4,4 @@
 pub mod line;
 pub mod output;
 pub mod state;
+pub mod told;

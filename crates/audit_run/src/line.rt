@@ -45,7 +45,7 @@ pub fn width_without_return(width: u64, last: u8) -> u64 {
 }
 
 // Puts as much of a text as there is room for.
-fn put_some(buf: &mut [u8], at: usize, s: &[u8]) -> usize {
+pub(crate) fn put_some(buf: &mut [u8], at: usize, s: &[u8]) -> usize {
     if buf.len() <= at {
         return at;
     }

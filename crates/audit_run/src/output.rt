@@ -1,26 +1,55 @@
 // Standard output by way of a lent buffer: rows wait in it, and are written out when the next has no room, and at the end.
-ghost use Rattle.std.specs.Prelude.{◌+◌, ◌≤◌};
+ghost use Rattle.std.specs.Prelude.{◌≡◌, ◌+◌, ◌≤◌};
 
-use libc::STDOUT_FILENO;
+use std::io::{Error, Stdout};
 use text::walk::part;
 
-pub type Out = [u8; 65536];
+// The buffer, what it is written out to, and why the last write failed that did.
+#[derive(Drop)]
+pub struct Out {
+    pub bytes: [u8; 65536],
+    to: Stdout,
+    error: Option<Error>,
+}
+
+impl Out {
+    pub fn new(to: Stdout) -> Self {
+        Out {
+            bytes: [0; 65536],
+            to,
+            error: None,
+        }
+    }
+
+    pub fn error(&self) -> Option<Error> {
+        self.error
+    }
+}
 
 // How many bytes wait, and whether all that was written out before them was taken.
-#[derive(Drop)]
+#[derive(Clone, Copy)]
 pub struct Waiting {
     pub bytes: usize,
     pub ok: bool,
 }
 
 // Writes out the first n bytes.
-pub fn flush(out: &Out, n: usize) -> bool {
-    io::write_all(STDOUT_FILENO, part(out, 0, n))
+pub fn flush(out: &mut Out, n: usize) -> bool
+    ensures { out.new.bytes ≡ out.old.bytes }
+{
+    match out.to.write_all(part(&out.bytes, 0, n)) {
+        Ok(()) => true,
+        Err(error) => {
+            out.error = Some(error);
+            false
+        }
+    }
 }
 
 // Room for 1,024 bytes more, as no row and no line of the summary has; where it is missing, what waits is written out first.
-pub fn room(out: &Out, w: Waiting) -> Waiting
-    ensures { result.bytes + 1024 ≤ 65536 }
+pub fn room(out: &mut Out, w: Waiting) -> Waiting
+    ensures room { result.bytes + 1024 ≤ 65536 }
+    ensures kept { out.new.bytes ≡ out.old.bytes }
 {
     let n = w.bytes;
     if n <= 64512 {

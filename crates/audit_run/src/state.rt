@@ -2,7 +2,7 @@
 use audit_tally::counts::one_more;
 
 // Where the audit stands.
-#[derive(Drop)]
+#[derive(Clone, Copy)]
 pub struct State {
     // How many lines there are so far.
     pub lines: u64,

@@ -21,7 +21,7 @@ fn say(out: &mut Out, w: Waiting, words: &[u8]) -> Waiting
     requires { length words.now ≤ 1024 }
 {
     let r = room(out, w);
-    let a = put_bytes(out, r.bytes, words);
+    let a = put_bytes(&mut out.bytes, r.bytes, words);
     waits(a, r.ok)
 }
 
@@ -50,10 +50,10 @@ fn put_first(buf: &mut [u8], at: usize, line: u64) -> usize
 // All lines, and the goal that they were read for.
 fn lines(out: &mut Out, w: Waiting, n: u64, goal: u32) -> Waiting {
     let r = room(out, w);
-    let a = put_head(out, r.bytes, n);
-    let b = put_bytes(out, a, b"lines, read for the goal ");
-    let c = put_goal(out, b, goal);
-    let d = put_byte(out, c, b'\n');
+    let a = put_head(&mut out.bytes, r.bytes, n);
+    let b = put_bytes(&mut out.bytes, a, b"lines, read for the goal ");
+    let c = put_goal(&mut out.bytes, b, goal);
+    let d = put_byte(&mut out.bytes, c, b'\n');
     waits(d, r.ok)
 }
 
@@ -62,9 +62,9 @@ fn kind(out: &mut Out, w: Waiting, n: u64, words: &[u8], line: u64) -> Waiting
     requires { length words.now ≤ 64 }
 {
     let r = room(out, w);
-    let a = put_head(out, r.bytes, n);
-    let b = put_bytes(out, a, words);
-    let c = put_first(out, b, line);
+    let a = put_head(&mut out.bytes, r.bytes, n);
+    let b = put_bytes(&mut out.bytes, a, words);
+    let c = put_first(&mut out.bytes, b, line);
     waits(c, r.ok)
 }
 
@@ -90,10 +90,10 @@ fn kinds(out: &mut Out, w: Waiting, counts: &Table) -> Waiting {
 // The lines of one refusal, a column further in.
 fn refusal(out: &mut Out, w: Waiting, n: u64, number: u8, line: u64) -> Waiting {
     let r = room(out, w);
-    let a = put_blanks(out, r.bytes, 8);
-    let b = put_head(out, a, n);
-    let c = put_refusal(out, b, number);
-    let d = put_first(out, c, line);
+    let a = put_blanks(&mut out.bytes, r.bytes, 8);
+    let b = put_head(&mut out.bytes, a, n);
+    let c = put_refusal(&mut out.bytes, b, number);
+    let d = put_first(&mut out.bytes, c, line);
     waits(d, r.ok)
 }
 
@@ -119,9 +119,9 @@ fn refusals(out: &mut Out, start: Waiting, counts: &Table) -> Waiting {
 
 fn change(out: &mut Out, w: Waiting, line: u64, wider: bool) -> Waiting {
     let r = room(out, w);
-    let a = put_head(out, r.bytes, line);
-    let b = put_change(out, a, wider);
-    let c = put_byte(out, b, b'\n');
+    let a = put_head(&mut out.bytes, r.bytes, line);
+    let b = put_change(&mut out.bytes, a, wider);
+    let c = put_byte(&mut out.bytes, b, b'\n');
     waits(c, r.ok)
 }
 
@@ -148,8 +148,8 @@ fn more_changes(out: &mut Out, w: Waiting, n: u64) -> Waiting {
         return w;
     }
     let r = room(out, w);
-    let a = put_head(out, r.bytes, n - KEPT);
-    let b = put_bytes(out, a, b"more such lines\n");
+    let a = put_head(&mut out.bytes, r.bytes, n - KEPT);
+    let b = put_bytes(&mut out.bytes, a, b"more such lines\n");
     waits(b, r.ok)
 }
 

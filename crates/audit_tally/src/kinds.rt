@@ -2,7 +2,7 @@
 use record::{DatePart, Reading};
 
 // What the library says of a line.
-#[derive(Drop)]
+#[derive(Clone, Copy)]
 pub struct Verdict {
     // What it is read as, for the goal.
     pub reading: Reading,
@@ -11,7 +11,7 @@ pub struct Verdict {
 }
 
 // The three kinds of lines.
-#[derive(Drop)]
+#[derive(Clone, Copy)]
 pub enum Kind {
     // Refused, with its number.
     Refused(u8),
@@ -74,7 +74,7 @@ pub fn year_width(line: &[u8], v: Verdict) -> usize {
 }
 
 // What a line does to the width of the year before it.
-#[derive(Drop)]
+#[derive(Clone, Copy)]
 pub enum Change {
     Same,
     Wider,

@@ -73,7 +73,7 @@ fn put_shown_byte(buf: &mut [u8], at: usize, b: u8) -> usize
 }
 
 // How many bytes were shown, and the place after them.
-#[derive(Drop)]
+#[derive(Clone, Copy)]
 struct Run {
     bytes: usize,
     next: usize,
