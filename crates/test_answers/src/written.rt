@@ -38,26 +38,26 @@ fn is_blank(paper: &[u8], from: usize) -> bool {
     true
 }
 
-fn length_bytes(a: &LengthAnswer) -> usize {
+fn length_bytes(a: LengthAnswer) -> usize {
     match a {
-        LengthAnswer::Length(n) => *n,
+        LengthAnswer::Length(n) => n,
         LengthAnswer::Refused(_) => 0,
     }
 }
 
 // The refusal's number; 0 where it does not refuse.
-fn length_refusal(a: &LengthAnswer) -> u8 {
+fn length_refusal(a: LengthAnswer) -> u8 {
     match a {
         LengthAnswer::Length(_) => 0,
-        LengthAnswer::Refused(k) => *k,
+        LengthAnswer::Refused(k) => k,
     }
 }
 
 // The refusal that a writer shares with its length function, which never gives 1.
-fn shared_refusal(a: &WriteAnswer) -> u8 {
+fn shared_refusal(a: WriteAnswer) -> u8 {
     match a {
         WriteAnswer::Written(_) => 0,
-        WriteAnswer::Refused(k) => { if *k == NO_ROOM { 0 } else { *k } }
+        WriteAnswer::Refused(k) => { if k == NO_ROOM { 0 } else { k } }
     }
 }
 
@@ -87,8 +87,8 @@ pub fn add_written(
     written: WriteAnswer,
     paper: &[u8],
 ) -> usize {
-    let agree = length_refusal(&length) == shared_refusal(&written);
-    let o = add_number(got, 0, length_bytes(&length) as u64);
+    let o = add_number(got, 0, length_bytes(length) as u64);
     let p = add_answer(got, o, written, paper);
+    let agree = length_refusal(length) == shared_refusal(written);
     add_unless(got, p, agree, b"length")
 }
