@@ -2,6 +2,8 @@
 // printed beside the title.
 #![tactic(auto)]
 
-fn main() {
-    test_judge::list::judge_list(true)
+use std::io;
+
+fn main(rt: HostRuntime) -> io::Result<()> {
+    test_judge::list::judge_list(&rt, true)
 }

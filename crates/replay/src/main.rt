@@ -2,6 +2,8 @@
 // the last line counts them.
 #![tactic(auto)]
 
-fn main() {
-    test_judge::list::judge_list(false)
+use std::io;
+
+fn main(rt: HostRuntime) -> io::Result<()> {
+    test_judge::list::judge_list(&rt, false)
 }

@@ -1,2 +1,2 @@
--- What several proofs cite.
+-- A lemma on negatives.
 mod Negation

@@ -1,6 +1,7 @@
 // What the library answered, in the words of a vector line: fields, a blank between two of them, from the start of a lent buffer
 // on. Each function takes the place after what is there and returns the new one; what does not fit is left out.
 use crate::buffer::{put_byte, put_text};
+use itoa::Buffer;
 
 // The blank before every field but the first.
 fn put_blank(buf: &mut [u8], at: usize) -> usize {
@@ -18,9 +19,8 @@ fn put_number(buf: &mut [u8], at: usize, n: u64) -> usize {
     if n < 10 {
         return put_byte(buf, at, 48 + n as u8);
     }
-    let mut digits = [0u8; 20];
-    let k = io::decimal(n, &mut digits);
-    put_text(buf, at, &digits[..k])
+    let mut digits = Buffer::new();
+    put_text(buf, at, digits.format(n).as_bytes())
 }
 
 pub fn add_number(buf: &mut [u8], at: usize, n: u64) -> usize {
