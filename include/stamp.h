@@ -1,7 +1,7 @@
 /*
  * Time stamps such as 2024-05-06T10:15:00Z[UTC]: two questions about a text, for C and C++. docs/SCOPE.md defines the answers.
  *
- * Link with libstamp.a, which `rt staticlib stamp` writes to target/staticlib/, for x86-64. The archive needs no other library.
+ * Link with libstamp.a, which `tools/staticlib stamp` writes to target/staticlib/, for x86-64. The archive needs no other library.
  *
  * A text is a pointer to its bytes and their count. It need not end in a zero byte, and a zero byte in it is a byte like any
  * other. The pointer may be NULL where the length is 0.
