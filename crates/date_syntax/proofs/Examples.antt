@@ -1,9 +1,6 @@
 -- Dates of document 01's grammar and texts that are none, computed. Assumes nothing.
-use Prim.Native.Nat.{ℕ}
-use Prim.Native.String.{String}
 use mathlib.Core.Bool.{true, false}
 use mathlib.Core.Path.{◌≡◌, refl}
-use mathlib.Core.List.{List, [], ◌∷◌}
 use Rattle.text.proofs.Quoted.{bytes}
 use Rattle.names.specs.Field.{digit, pair_of, field}
 use Rattle.date_syntax.specs.declared.DateRead.{DateRead}

@@ -2,7 +2,6 @@
 use Prim.Native.Nat.{ℕ}
 use Prim.Native.String.{String}
 use mathlib.Core.Path.{◌≡◌, refl}
-use mathlib.Core.List.{List, [], ◌∷◌}
 use Rattle.text.proofs.Quoted.{bytes}
 use Rattle.text.specs.Digits.{value_from}
 use Rattle.record.specs.declared.stamp.Sign.{Sign}

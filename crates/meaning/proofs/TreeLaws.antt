@@ -3,17 +3,15 @@
 --     stamp_says_lem, time_text_says_lem, year_month_says_lem, month_day_says_lem                  so is what it says
 --     outside               a text that is not of the grammar has the number 6
 -- Assumes nothing.
-use Prim.Native.Nat.{ℕ, ◌<◌, ◌≤◌}
+use Prim.Native.Nat.{ℕ, ◌≤◌}
 use native.Mathlib.Omega.{arith}
-use mathlib.Core.Bool.{Bool, true, false, cond}
+use mathlib.Core.Bool.{Bool, true, cond}
 use mathlib.Core.Path.{◌≡◌, refl, sym, ◌∙◌, ap}
 use mathlib.Core.List.{List, [], ◌∷◌, ◌++◌, append_assoc}
-use lib.Dec.{ltb}
 use lib.ListN.{length, take, drop}
 use borrow.Author.Tests.{lt-ltb}
 use Rattle.record.specs.declared.stamp.DatePart.{DatePart}
 use Rattle.record.specs.declared.stamp.DatePart.TheVariants as part
-use Rattle.record.specs.declared.shown.ClockPart.{ClockPart}
 use Rattle.record.specs.declared.shown.ClockPart.TheVariants as clock
 use Rattle.record.specs.declared.shown.ShownOffset.TheVariants as offset
 use Rattle.record.specs.declared.shown.NamePart.TheVariants as name
@@ -24,12 +22,12 @@ use Rattle.tail_syntax.specs.Syntax as tails
 use Rattle.tail_syntax.proofs.Kept.{notes-told, zone_part_told, calendar_part_told}
 use Rattle.grammar.specs.declared.ClockRead.{ClockRead}
 use Rattle.grammar.specs.Read.{no_clock}
-use Rattle.grammar.specs.Syntax.{ClockTree, clock_text, ClockOk, clock_kept, PartTree, date_only, at, part_text, PartOk, part_kept, StampTree, stamp_text, StampOk, stamp_kept, lead_text, TimeTextTree, time_text_text, TimeTextOk, time_text_kept, YearMonthTextTree, year_month_text_text, YearMonthTextOk, year_month_text_kept, MonthDayTextTree, month_day_text_text, MonthDayTextOk, month_day_text_kept}
+use Rattle.grammar.specs.Syntax.{ClockTree, clock_text, clock_kept, PartTree, date_only, at, part_text, PartOk, part_kept, StampTree, stamp_text, StampOk, stamp_kept, lead_text, TimeTextTree, time_text_text, TimeTextOk, time_text_kept, YearMonthTextTree, year_month_text_text, YearMonthTextOk, year_month_text_kept, MonthDayTextTree, month_day_text_text, MonthDayTextOk, month_day_text_kept}
 use Rattle.grammar.proofs.Exact.{stamp_exact, time_text_exact, year_month_text_exact, month_day_text_exact}
 use Rattle.meaning.specs.declared.Faults.{Faults}
 use Rattle.meaning.specs.Shown.{second, shown_time, shown_utc, shown_date, shown_month_day, tail_zone, tail_calendar, shown}
 use Rattle.meaning.specs.Verdict.{verdict, time_digits, utc_digits, long_fraction, other_calendar, stamp_faults, time_faults, year_month_faults, month_day_faults}
-use Rattle.meaning.specs.Said.{NameSaid, said, Said, name_said, said_by}
+use Rattle.meaning.specs.Said.{said, name_said, said_by}
 use Rattle.meaning.specs.Trees.{second_of, fraction_of, time_says, utc_says, part_time, part_offset, zone_says, first_says, calendar_says, utc_fraction, clock_long, part_long, other_calendar_said, stamp_refusal, stamp_says, time_text_refusal, time_text_says, year_month_says, month_day_says, partial_refusal, partial_says}
 
 -- ---- what follows the minute

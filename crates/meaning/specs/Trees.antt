@@ -1,5 +1,5 @@
 -- WHAT A TEXT MEANS, by its syntax tree, as document 01 has it: what it says, and which of the refusals 7 to 11 it has. Assumes nothing: these are definitions.
-use Rattle.std.specs.Prelude.{ℕ, Bool, false, not, ◌&&◌, ◌||◌, List, [], ◌∷◌, map, ltb, ℤ, pos, length}
+use Rattle.std.specs.Prelude.{ℕ, Bool, false, not, ◌&&◌, ◌||◌, List, [], ◌∷◌, map, ltb, pos, length}
 use Rattle.text.specs.Walk.{same_bytes}
 use Rattle.names.specs.Name.{iso8601}
 use Rattle.iso.specs.Gregorian.{valid_date}

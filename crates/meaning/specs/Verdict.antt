@@ -1,6 +1,6 @@
 -- Which number a text of at most 1,024 bytes is refused with, 0 where it is not: refusals 6 to 11 in document 01's order, for each kind of text.
 -- Assumes nothing: these are definitions.
-use Rattle.std.specs.Prelude.{ℕ, ◌+◌, Bool, false, cond, not, ◌&&◌, ◌||◌, List, [], ◌∷◌, map, ltb, leb, pos}
+use Rattle.std.specs.Prelude.{ℕ, ◌+◌, Bool, false, cond, not, ◌&&◌, ◌||◌, List, map, ltb, leb, pos}
 use Rattle.text.specs.Walk.{same_bytes}
 use Rattle.names.specs.Name.{iso8601}
 use Rattle.iso.specs.Gregorian.{valid_date}

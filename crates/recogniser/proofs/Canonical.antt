@@ -6,7 +6,7 @@ use Prim.Native.Nat.{ℕ, ◌≤◌}
 use native.Mathlib.Nat.{min-le_left}
 use native.Mathlib.Omega.{arith}
 use mathlib.Core.Bool.{Bool, true, false, not, ◌&&◌, ◌||◌}
-use mathlib.Core.Path.{◌≡◌, refl, sym, ap, ◌∙◌}
+use mathlib.Core.Path.{◌≡◌, refl, ap, ◌∙◌}
 use mathlib.Core.List.{List, [], ◌∷◌}
 use borrow.Author.Tests.{le-leb, ltb-false}
 use lib.Dec.{ltb, leb}
@@ -39,10 +39,9 @@ use Rattle.tail_writer.specs.declared.annotation.Mark.TheVariants.{Hidden, Plain
 use Rattle.tail_writer.specs.Annotation.{name_in}
 use Rattle.date_writer.specs.Date.{date_ok}
 use Rattle.time_writer.specs.Time.{time_ok}
-use Rattle.time_writer.specs.Offset.{utc_ok, offset_ok}
 use Rattle.tail_writer.specs.Zone.{zone_mark, zone_ok}
 use Rattle.tail_writer.specs.Calendar.{is_iso, calendar_mark, calendar_ok}
-use Rattle.writer.specs.Stamp.{time_part_ok, offset_part_ok, zone_part_ok, calendar_part_ok}
+use Rattle.writer.specs.Stamp.{time_part_ok, zone_part_ok, calendar_part_ok}
 use Rattle.date_syntax.specs.Syntax as dates
 use Rattle.time_syntax.specs.Syntax as times
 use Rattle.tail_syntax.specs.Read.{walk_step, none}

@@ -3,43 +3,37 @@
 --     canon_back         the canonical tree of that stamp is the tree
 --     line_of            the writer accepts it; it has a date, and separators are on
 -- Assumes nothing.
-use Prim.Native.Nat.{ℕ, zero, suc, ◌+◌, ◌≤◌, ◌<◌}
+use Prim.Native.Nat.{ℕ, zero, suc, ◌≤◌, ◌<◌}
 use native.Mathlib.Omega.{arith}
 use mathlib.Core.Bool.{Bool, true, false, cond, not, ◌&&◌, ◌||◌, false≢true}
 use mathlib.Core.Path.{◌≡◌, refl, sym, ap, ◌∙◌}
 use mathlib.Core.List.{List, [], ◌∷◌, ◌++◌}
 use borrow.Author.Tests.{lt-ltb, le-ltb, le-leb, leb-true, eqb-true}
-use lib.Dec.{ltb, leb, eqb}
-use lib.IntN.{ℤ, pos, negsuc, nat_abs}
+use lib.Dec.{leb, eqb}
+use lib.IntN.{nat_abs}
 use lib.ListN.{length, take, drop, length-append}
 use lib.Seq.{take-append_seam, drop-append_seam, take-length}
-use Rattle.text.specs.Digits.{digits}
 use Rattle.text.proofs.Answers.{both}
 use Rattle.iso.specs.Gregorian.{valid_date}
-use Rattle.record.specs.declared.stamp.Date.{Date}
 use Rattle.record.specs.declared.stamp.DatePart.TheVariants as date
 use Rattle.record.specs.declared.stamp.Precision.{Precision}
-use Rattle.record.specs.declared.stamp.Precision.TheVariants.{Auto, Minute, Digit}
+use Rattle.record.specs.declared.stamp.Precision.TheVariants.{Minute, Digit}
 use Rattle.record.specs.declared.stamp.Time.{Time}
 use Rattle.record.specs.declared.stamp.TimePart.{TimePart}
 use Rattle.record.specs.declared.stamp.TimePart.TheVariants as time
-use Rattle.record.specs.declared.stamp.Sign.{Sign}
-use Rattle.record.specs.declared.stamp.Sign.TheVariants.{Negative, Zero, Positive}
+use Rattle.record.specs.declared.stamp.Sign.TheVariants.{Negative, Positive}
 use Rattle.record.specs.declared.stamp.UtcOffset.TheVariants as utc
 use Rattle.record.specs.declared.stamp.DisplayOffset.TheVariants as display
 use Rattle.record.specs.declared.stamp.OffsetPart.{OffsetPart}
 use Rattle.record.specs.declared.stamp.OffsetPart.TheVariants as part
-use Rattle.record.specs.declared.stamp.DisplayTimeZone.{DisplayTimeZone}
 use Rattle.record.specs.declared.stamp.DisplayTimeZone.TheVariants as zone-show
 use Rattle.record.specs.declared.stamp.ZonePart.{ZonePart}
 use Rattle.record.specs.declared.stamp.ZonePart.TheVariants as zone
-use Rattle.record.specs.declared.stamp.DisplayCalendar.{DisplayCalendar}
 use Rattle.record.specs.declared.stamp.DisplayCalendar.TheVariants as calendar-show
 use Rattle.record.specs.declared.stamp.CalendarPart.{CalendarPart}
 use Rattle.record.specs.declared.stamp.CalendarPart.TheVariants as calendar
 use Rattle.record.specs.declared.stamp.Stamp.{Stamp}
 use Rattle.record.specs.Separators.{time_separators, offset_separators, separators_on}
-use Rattle.names.specs.Grammar.{ZoneName, CalendarName}
 use Rattle.names.proofs.Exact.{zone_reads, calendar_reads, zone_name_exact, calendar_name_exact}
 use Rattle.precision.specs.Precision.{precision_ok}
 use Rattle.date_writer.specs.Date.{date_ok}
@@ -52,15 +46,14 @@ use Rattle.date_syntax.specs.Syntax as dates
 use Rattle.time_syntax.specs.Read.{point_byte}
 use Rattle.time_syntax.specs.Syntax as times
 use Rattle.time_syntax.proofs.NanoLaws.{nanos_digits}
-use Rattle.tail_syntax.specs.Read.{uca, is_uca}
 use Rattle.tail_syntax.specs.Syntax as tails
 use Rattle.tail_syntax.proofs.Kept.{uca_key, Alone, nothing, only}
 use Rattle.grammar.specs.Syntax as trees
 use Rattle.meaning.specs.Shown.{signed_year}
 use Rattle.meaning.specs.Trees.{date_says, fraction_of}
 use Rattle.round_trip.specs.Shown.{is_negative, Line}
-use Rattle.round_trip.specs.Canon.{year_tree, date_tree, fraction_tree, secs_tree, time_tree, offset_tree, part_tree, zone_of, zone_tree, notes_of, notes_tree, canon}
-use Rattle.recogniser.specs.Plain.{plain_year, plain_fraction}
+use Rattle.round_trip.specs.Canon.{year_tree, fraction_tree, secs_tree, time_tree, offset_tree, part_tree, zone_of, zone_tree, notes_of, notes_tree, canon}
+use Rattle.recogniser.specs.Plain.{plain_year}
 use Rattle.recogniser.proofs.Canonical.{join, FractionPlain}
 
 -- ---- the stamp of a tree: a fraction is shown by as many digits as it has, a calendar always

@@ -3,7 +3,6 @@
 --     recognised_only    no other answer is
 -- Assumes nothing.
 use Prim.Native.Nat.{ℕ, ◌≤◌}
-use native.Mathlib.Omega.{arith}
 use mathlib.Core.Bool.{Bool, true, false, cond, not, ◌&&◌, false≢true}
 use mathlib.Core.Path.{◌≡◌, refl, sym, ap, ◌∙◌}
 use mathlib.Core.List.{List}
@@ -26,13 +25,12 @@ use Rattle.grammar.specs.declared.StampRead.{StampRead}
 use Rattle.grammar.specs.Read.{clock_good, stamp, stamp_good}
 use Rattle.grammar.specs.Syntax as trees
 use Rattle.grammar.proofs.Exact.{stamp_exact}
-use Rattle.writer.specs.Stamp.{stamp_text}
 use Rattle.writer.proofs.Longest.{longest}
 use Rattle.round_trip.specs.Canon.{canon}
 use Rattle.round_trip.proofs.Canonical.{canonical, dated}
 use Rattle.meaning.specs.Verdict.{late_day}
 use Rattle.meaning.specs.Trees.{date_says}
-use Rattle.recogniser.specs.Plain.{plain_date, plain_time, plain_utc, plain_clock, plain_zone, plain_notes, plain_tail, plain, recognises}
+use Rattle.recogniser.specs.Plain.{plain_date, plain_time, plain_utc, plain_clock, plain_zone, plain_tail, plain, recognises}
 use Rattle.recogniser.specs.Recognised.{Written, Recognised}
 use Rattle.recogniser.proofs.Canonical.{join, canon-plain}
 use Rattle.recogniser.proofs.Stamps.{lent_of, stamp_of, TimePlain, UtcPlain, PartPlain, ZonePlain, PlainTree, canon_back, line_of}

@@ -42,7 +42,7 @@ use Rattle.tail_writer.specs.Annotation.{name_in}
 use Rattle.tail_writer.specs.Zone.{zone_mark}
 use Rattle.tail_writer.specs.Calendar.{is_iso, calendar_mark}
 use Rattle.time_writer.proofs.TimeLaws.{time_in}
-use Rattle.writer.specs.Stamp.{stamp_text, time_part_ok, offset_part_ok, has_time, shows_offset}
+use Rattle.writer.specs.Stamp.{time_part_ok, offset_part_ok, has_time, shows_offset}
 use Rattle.writer.proofs.Longest.{longest}
 use Rattle.time_syntax.specs.Syntax as times
 use Rattle.time_syntax.proofs.NanoLaws.{nanos_cut, nanos_last}

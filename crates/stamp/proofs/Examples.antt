@@ -2,14 +2,14 @@
 use Prim.Native.Nat.{ℕ}
 use Prim.Native.String.{String}
 use mathlib.Core.Path.{◌≡◌, refl}
-use mathlib.Core.Bool.{Bool, true, false}
-use mathlib.Core.List.{List, []}
+use mathlib.Core.Bool.{true, false}
+use mathlib.Core.List.{List}
 use lib.IntN.{ℤ, pos, negsuc}
-use lib.ListN.{length, replicate}
+use lib.ListN.{replicate}
 use Rattle.text.specs.Digits.{last_nonzero, fraction, width_by, width, number}
-use Rattle.text.specs.Answer.{Judged, good, bad, length_of, answer_of, buffer_of}
+use Rattle.text.specs.Answer.{Judged, good, length_of, answer_of, buffer_of}
 use Rattle.text.specs.declared.LengthAnswer.TheVariants.{Length}
-use Rattle.text.specs.declared.WriteAnswer.TheVariants.{Written, Refused}
+use Rattle.text.specs.declared.WriteAnswer.TheVariants.{Refused}
 use Rattle.text.proofs.Quoted.{bytes}
 use Rattle.iso.specs.Gregorian.{leap_rule, is_leap, month_lengths, days_in_month, valid_date}
 use Rattle.record.specs.declared.stamp.Date.{Date}
@@ -26,8 +26,6 @@ use Rattle.record.specs.declared.stamp.Calendar.{Calendar}
 use Rattle.record.specs.declared.stamp.Stamp.{Stamp}
 use Rattle.record.specs.declared.duration.DateDurationPart.TheVariants as days
 use Rattle.record.specs.declared.duration.TimeDuration.TheVariants.{Seconds}
-use Rattle.record.specs.declared.duration.Duration.{Duration}
-use Rattle.record.specs.declared.goal.Goal.{Goal}
 use Rattle.record.specs.declared.goal.Goal.TheVariants as goal
 use Rattle.record.specs.declared.shown.Reading.{Reading}
 use Rattle.record.specs.declared.shown.Reading.TheVariants as reading

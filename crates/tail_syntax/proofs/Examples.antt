@@ -3,7 +3,6 @@ use Prim.Native.Nat.{ℕ}
 use Prim.Native.String.{String}
 use mathlib.Core.Bool.{Bool, true, false}
 use mathlib.Core.Path.{◌≡◌, refl}
-use mathlib.Core.List.{List, [], ◌∷◌}
 use Rattle.text.proofs.Quoted.{bytes}
 use Rattle.names.specs.Field.{digit, pair_of, field}
 use Rattle.names.specs.Scan.{word_step, join_step, dot_step, key_step, run_step, part_step, value_step, zone_step, step, whole_of, run_of, key_run, calendar_run, numeric_of, numeric_run, zone_run}

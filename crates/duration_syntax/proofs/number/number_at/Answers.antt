@@ -1,6 +1,6 @@
 -- `duration_syntax::number::number_at` meets its contract. The invariant: the digits read so far stand for n, and with those that are left for
 -- the whole number. Assumes nothing.
-use Prim.Native.Nat.{ℕ, ◌+◌, ◌*◌, ◌-◌}
+use Prim.Native.Nat.{ℕ, ◌+◌, ◌*◌}
 use native.Mathlib.Omega.{arith}
 use mathlib.Core.Bool.{true}
 use mathlib.Core.List.{List, [], ◌∷◌}
@@ -38,7 +38,7 @@ whole t i v e (n, f, g, h) =
     cc
 
 pub loop-i-preserved : goal.loop-i-preserved
-loop-i-preserved c = 
+loop-i-preserved c =
     let is_digit : digit_byte (get_or c.args.t.now c.loop-i.i 0) ≡ true = sym c.is_digit.ensures ∙ c.if-is_digit.true in
     let e = run_more c.args.t.now c.loop-i.i c.loop-i-test.true (is_digit) in
     (omega arith, rw c.more-value.ensures (another c.args.t.now c.loop-i.i c.loop-i.value _ e c.loop-i.invariant.1))

@@ -1,5 +1,4 @@
 -- `duration_syntax::part::capital_of` meets its contract. Assumes nothing.
-use mathlib.Core.Bool.{true}
 use Rattle.duration_syntax.specs.Read.{capital}
 use Rattle.duration_syntax.proofs.part.capital_of.Goals as goal
 

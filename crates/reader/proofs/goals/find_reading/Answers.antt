@@ -5,11 +5,11 @@ use Rattle.reader.proofs.goals.find_reading.Goals as goal
 pub returns : goal.returns
 unfolding find
 returns c = simp (
-      c.fall_back.ensures,
-      c.read_stamp.ensures,
-      c.fall_back-undated.ensures,
-      c.read_time.ensures,
-      c.fall_back-partial.ensures,
-      c.read_month_day.ensures,
-      c.read_year_month.ensures,
-    )
+  c.fall_back.ensures,
+  c.read_stamp.ensures,
+  c.fall_back-undated.ensures,
+  c.read_time.ensures,
+  c.fall_back-partial.ensures,
+  c.read_month_day.ensures,
+  c.read_year_month.ensures,
+)

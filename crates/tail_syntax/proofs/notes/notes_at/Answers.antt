@@ -20,11 +20,11 @@ loop-r-smaller c = rw (c.past_of-r.ensures, c.past_of-v.ensures, c.inside_of.ens
 
 pub loop-r-preserved : goal.loop-r-preserved
 loop-r-preserved c = rw (c.walk_step-w.ensures, c.past_of-r.ensures, c.past_of-v.ensures, c.inside_of.ensures) (
-      omega (arith, after_lt c.in-Is.critical c.in-Is.key c.in-Is.value c.loop-r.r.now c.loop-r-test.true),
-      sym (turn (length c.loop-r.r.now) c.loop-r.r.now c.loop-r.w (le_refl _) c.loop-r-test.true
-          (sym c.note_at-n.ensures ∙ c.in-Is.is))
-          ∙ c.loop-r.invariant.1,
-    )
+  omega (arith, after_lt c.in-Is.critical c.in-Is.key c.in-Is.value c.loop-r.r.now c.loop-r-test.true),
+  sym (turn (length c.loop-r.r.now) c.loop-r.r.now c.loop-r.w (le_refl _) c.loop-r-test.true
+      (sym c.note_at-n.ensures ∙ c.in-Is.is))
+      ∙ c.loop-r.invariant.1,
+)
 
 pub returns : goal.returns
 unfolding notes
