@@ -6,6 +6,8 @@ import re
 import shlex
 import subprocess
 import sys
+import tempfile
+from pathlib import Path
 
 from crates import TOP, archive_crate, build_archive, folder, kit, tool
 
@@ -16,17 +18,20 @@ HOST = os.uname().machine
 def made(name):
     """Makes the archive of a library and keeps its module: a toolchain whose compiler keeps the module that it is given. The words that rattle compiles it with."""
     subprocess.run([TOP / "tools/staticlib", name], stdout=subprocess.DEVNULL, check=True)
-    own = OUT / "kit"
-    (own / "bin").mkdir(parents=True, exist_ok=True)
+    OUT.mkdir(parents=True, exist_ok=True)
+    # it holds links, and rt ci refuses a checkout with a link in it
+    outside = tempfile.TemporaryDirectory()
+    own = Path(outside.name)
+    (own / "bin").mkdir()
     module, words = OUT / f"{name}.bc", OUT / f"{name}.words"
     keep = f'cp module.bc {shlex.quote(str(module))}\nprintf "%s\\n" "$@" >{shlex.quote(str(words))}\n'
     (own / "bin/clang").write_text(f'#!/bin/sh\n{keep}exec {shlex.quote(str(tool("clang")))} "$@"\n')
     (own / "bin/clang").chmod(0o755)
     for link, to in [("bin/ld.lld", tool("ld.lld")), ("bin/llvm-ar", tool("llvm-ar")), ("lib", kit() / "toolchain/lib")]:
-        (own / link).unlink(missing_ok=True)
         (own / link).symlink_to(to)
     archive = OUT / f"built-{name}.a"
     said, is_made = build_archive(archive_crate(name), archive, own)
+    outside.cleanup()
     if not is_made:
         sys.exit(said)
     if not filecmp.cmp(archive, TOP / "target/staticlib" / f"lib{name}.a", shallow=False):

@@ -1,6 +1,7 @@
 // Standard output by way of a lent buffer: rows wait in it, and are written out when the next has no room, and at the end.
-ghost use Rattle.std.specs.Prelude.{◌≡◌, ◌+◌, ◌≤◌};
+ghost use Rattle.std.specs.Prelude.{◌+◌, ◌≤◌};
 
+use std::cell::Cell;
 use std::io::{Error, Stdout};
 use text::walk::part;
 
@@ -9,7 +10,7 @@ use text::walk::part;
 pub struct Out {
     pub bytes: [u8; 65536],
     to: Stdout,
-    error: Option<Error>,
+    error: Cell<Option<Error>>,
 }
 
 impl Out {
@@ -17,12 +18,12 @@ impl Out {
         Out {
             bytes: [0; 65536],
             to,
-            error: None,
+            error: Cell::new(None),
         }
     }
 
     pub fn error(&self) -> Option<Error> {
-        self.error
+        self.error.get()
     }
 }
 
@@ -34,22 +35,19 @@ pub struct Waiting {
 }
 
 // Writes out the first n bytes.
-pub fn flush(out: &mut Out, n: usize) -> bool
-    ensures { out.new.bytes ≡ out.old.bytes }
-{
+pub fn flush(out: &Out, n: usize) -> bool {
     match out.to.write_all(part(&out.bytes, 0, n)) {
         Ok(()) => true,
         Err(error) => {
-            out.error = Some(error);
+            out.error.set(Some(error));
             false
         }
     }
 }
 
 // Room for 1,024 bytes more, as no row and no line of the summary has; where it is missing, what waits is written out first.
-pub fn room(out: &mut Out, w: Waiting) -> Waiting
-    ensures room { result.bytes + 1024 ≤ 65536 }
-    ensures kept { out.new.bytes ≡ out.old.bytes }
+pub fn room(out: &Out, w: Waiting) -> Waiting
+    ensures { result.bytes + 1024 ≤ 65536 }
 {
     let n = w.bytes;
     if n <= 64512 {

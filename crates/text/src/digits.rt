@@ -23,6 +23,7 @@ fn low_nine(value: u32) -> [u8; 9]
     out
 }
 
+#[tactic(auto, using(crate::proofs::DigitLaws::last_found, crate::proofs::DigitLaws::last_skip))]
 fn last_nonzero(ds: [u8; 9]) -> usize
     ensures { result ≡ last_nonzero ds }
 {

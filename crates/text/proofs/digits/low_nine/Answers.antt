@@ -1,4 +1,4 @@
--- The loop's invariant: the digits from place i on are done, and `rest` is what is left of the value. Assumes nothing.
+-- `text::digits::low_nine` meets its contract: the loop keeps its invariant. Assumes nothing.
 use native.Mathlib.Omega.{arith}
 use lib.ListN.{length-set}
 use Rattle.text.proofs.DigitLaws.{split_more, split_div}

@@ -1,4 +1,4 @@
--- The loop's invariant: the bytes before place i are in the buffer. Assumes nothing.
+-- `text::put::put_bytes` meets its contract: the loop keeps its invariant. Assumes nothing.
 use native.Mathlib.Numerals.{add-one}
 use native.Mathlib.Omega.{arith}
 use lib.ListN.{length-set}

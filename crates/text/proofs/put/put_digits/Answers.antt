@@ -1,4 +1,4 @@
--- The loop's invariant: the digits before place i are in the buffer. Assumes nothing.
+-- `text::put::put_digits` meets its contract: the loop keeps its invariant. Assumes nothing.
 use native.Mathlib.Omega.{arith}
 use lib.ListN.{length-set}
 use Rattle.text.proofs.PutLaws.{put_snoc}
