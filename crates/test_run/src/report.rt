@@ -1,5 +1,6 @@
 // What is printed of a list: each line that is answered otherwise than it says, with what was got, and the counts of all lines. What is printed
-// waits in a lent buffer, as `output` says, and the only error is that of a write that failed.
+// waits in a lent buffer, as `output` says, and the only error is that of a write that failed. The buffer then holds what waited, perhaps with the
+// first texts of what was to be put after it, and has its length.
 use crate::output::{put_number, put_text};
 use crate::state::State;
 use std::io;
