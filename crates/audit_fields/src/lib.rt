@@ -2,121 +2,61 @@
 // written by the library's own writers.
 #![tactic(auto)]
 
-ghost use Rattle.std.specs.Prelude.{◌+◌, ◌≤◌, ◌<◌, length};
+ghost use Rattle.std.specs.Prelude.{◌+◌, ◌≤◌, length};
 ghost use Rattle.audit_words.specs.Within.{Within};
 
-use audit_words::columns::{put_count, put_shown};
-use audit_words::words::{put_month, wide};
+use audit_words::row::Row;
+use audit_words::words::month_name;
 use record::{
-    Clock, ClockPart, Date, DatePart, DisplayOffset, MarkedName, NamePart, Offset, Precision,
-    Shown, ShownOffset, Sign, SignedClock, SignedTime, Time, UtcOffset,
+    Clock, Date, DisplayOffset, MarkedName, Offset, Precision, Shown, ShownOffset, Sign,
+    SignedClock, SignedTime, Time, UtcOffset,
 };
-use text::WriteAnswer;
-use text::put::{put_byte, put_bytes};
 use text::walk::part;
+use time_writer::offset::write_offset;
+use time_writer::time::write_time;
 
-// What stands before a year's digits. A year that four digits without a zero in front do not write is called one.
-fn put_before_year(buf: &mut [u8], at: usize, negative: bool, n: u32) -> usize
-    requires { at + 8 ≤ length buf.old }
-    ensures { Within at 8 result }
+// A year that four digits without a zero in front do not write is called one.
+fn put_year<const N: usize>(row: &mut Row<N>, year: i32)
+    requires { length row.old + 28 ≤ N }
+    ensures { Within (length row.old) 28 (length row.new) }
 {
-    if negative {
-        return put_bytes(buf, at, b", year -");
-    }
-    if (n < 1000) | (9999 < n) {
-        return put_bytes(buf, at, b", year ");
-    }
-    put_byte(buf, at, b' ')
+    row.text(match year {
+        ..0 => ", year -",
+        1000..=9999 => " ",
+        _ => ", year ",
+    });
+    row.number(u64::from(iso::magnitude(year)));
 }
 
-fn put_year(buf: &mut [u8], at: usize, year: i32) -> usize
-    requires { at + 28 ≤ length buf.old }
-    ensures { Within at 28 result }
+fn put_date<const N: usize>(row: &mut Row<N>, date: Date)
+    requires { length row.old + 57 ≤ N }
+    ensures { Within (length row.old) 57 (length row.new) }
 {
-    let n = iso::magnitude(year);
-    let a = put_before_year(buf, at, year < 0, n);
-    put_count(buf, a, n as u64)
+    row.text("date ");
+    row.number(u64::from(date.day));
+    row.byte(b' ');
+    row.text(month_name(date.month));
+    put_year(row, date.year);
 }
 
-fn put_date(buf: &mut [u8], at: usize, d: Date) -> usize
-    requires { at + 57 ≤ length buf.old }
-    ensures { Within at 57 result }
+fn put_clock<const N: usize>(row: &mut Row<N>, clock: Clock)
+    requires { length row.old + 18 ≤ N }
+    ensures { Within (length row.old) 18 (length row.new) }
 {
-    let a = put_bytes(buf, at, b"date ");
-    let b = put_count(buf, a, wide(d.day));
-    let c = put_byte(buf, b, b' ');
-    let e = put_month(buf, c, d.month);
-    put_year(buf, e, d.year)
-}
-
-fn put_date_part(buf: &mut [u8], at: usize, d: DatePart) -> usize
-    requires { at + 57 ≤ length buf.old }
-    ensures { Within at 57 result }
-{
-    match d {
-        DatePart::Absent => at,
-        DatePart::Is(date) => put_date(buf, at, date),
-    }
-}
-
-// The place after what a writer wrote into the room that it was lent.
-fn after(at: usize, written: WriteAnswer, room: usize) -> usize
-    requires { at + room < 18446744073709551616 }
-    ensures { Within at room result }
-{
-    match written {
-        WriteAnswer::Written(n) => { if n <= room { at + n } else { at } }
-        WriteAnswer::Refused(_) => at,
-    }
-}
-
-// What stands before a time: a comma if there is a date before it.
-fn put_before_time(buf: &mut [u8], at: usize, d: DatePart) -> usize
-    requires { at + 7 ≤ length buf.old }
-    ensures { Within at 7 result }
-{
-    match d {
-        DatePart::Absent => put_bytes(buf, at, b"time "),
-        DatePart::Is(_) => put_bytes(buf, at, b", time "),
-    }
-}
-
-fn put_time(buf: &mut [u8], at: usize, d: DatePart, clock: Clock) -> usize
-    requires { at + 25 ≤ length buf.old }
-    ensures { Within at 25 result }
-{
-    let a = put_before_time(buf, at, d);
-    let end = a + 18;
+    let mut bytes = [0u8; 18];
     let time = Time {
         clock,
         precision: Precision::Auto,
         include_sep: true,
     };
-    let written = time_writer::time::write_time(&mut buf[a..end], time);
-    after(a, written, 18)
-}
-
-fn put_time_part(buf: &mut [u8], at: usize, d: DatePart, c: ClockPart) -> usize
-    requires { at + 25 ≤ length buf.old }
-    ensures { Within at 25 result }
-{
-    match c {
-        ClockPart::Absent => at,
-        ClockPart::Is(clock) => put_time(buf, at, d, clock),
-    }
-}
-
-fn sign_of(negative: bool) -> Sign {
-    if negative {
-        Sign::Negative
-    } else {
-        Sign::Positive
+    if let Ok(n) = write_time(&mut bytes, time) {
+        row.put(&bytes[..n]);
     }
 }
 
 // An offset of whole minutes is shown as such.
 fn precision_of(c: Clock) -> Precision {
-    if (c.second == 0) & (c.nanosecond == 0) {
+    if c.second == 0 && c.nanosecond == 0 {
         Precision::Minute
     } else {
         Precision::Auto
@@ -124,86 +64,70 @@ fn precision_of(c: Clock) -> Precision {
 }
 
 fn offset_of(s: SignedClock) -> Offset {
-    let clock = s.clock;
     let time = Time {
-        clock,
-        precision: precision_of(clock),
+        clock: s.clock,
+        precision: precision_of(s.clock),
         include_sep: true,
     };
-    let signed = SignedTime {
-        sign: sign_of(s.negative),
-        time,
+    let sign = if s.negative {
+        Sign::Negative
+    } else {
+        Sign::Positive
     };
     Offset {
         show: DisplayOffset::Auto,
-        offset: UtcOffset::Offset(signed),
+        offset: UtcOffset::Offset(SignedTime { sign, time }),
     }
 }
 
-fn put_offset(buf: &mut [u8], at: usize, s: SignedClock) -> usize
-    requires { at + 28 ≤ length buf.old }
-    ensures { Within at 28 result }
+fn put_offset<const N: usize>(row: &mut Row<N>, offset: ShownOffset)
+    requires { length row.old + 28 ≤ N }
+    ensures { Within (length row.old) 28 (length row.new) }
 {
-    let a = put_bytes(buf, at, b", offset ");
-    let end = a + 19;
-    let written = time_writer::offset::write_offset(&mut buf[a..end], offset_of(s));
-    after(a, written, 19)
-}
-
-fn put_offset_part(buf: &mut [u8], at: usize, o: ShownOffset) -> usize
-    requires { at + 28 ≤ length buf.old }
-    ensures { Within at 28 result }
-{
-    match o {
-        ShownOffset::Absent => at,
-        ShownOffset::Z => put_bytes(buf, at, b", UTC"),
-        ShownOffset::Is(s) => put_offset(buf, at, s),
+    match offset {
+        ShownOffset::Z => row.text(", UTC"),
+        ShownOffset::At(s) => {
+            let mut bytes = [0u8; 19];
+            row.text(", offset ");
+            if let Ok(n) = write_offset(&mut bytes, offset_of(s)) {
+                row.put(&bytes[..n]);
+            }
+        }
     }
 }
 
-fn put_critical(buf: &mut [u8], at: usize, critical: bool) -> usize
-    requires { at + 11 ≤ length buf.old }
-    ensures { Within at 11 result }
+// A name of the line, if there is one, with the word before it. A name of more than 64 bytes is cut.
+fn put_name<const N: usize>(row: &mut Row<N>, word: &str, line: &[u8], name: Option<MarkedName>)
+    requires { (length row.old + 92 ≤ N) × (length word.now ≤ 11) }
+    ensures { Within (length row.old) 92 (length row.new) }
 {
-    if critical {
-        return put_bytes(buf, at, b" (critical)");
-    }
-    at
-}
-
-// A name of the line, with the word before it. A name of more than 64 bytes is cut.
-fn put_name(buf: &mut [u8], at: usize, word: &[u8], line: &[u8], m: MarkedName) -> usize
-    requires { (at + 92 ≤ length buf.old) × (length word.now ≤ 11) }
-    ensures { Within at 92 result }
-{
-    let a = put_bytes(buf, at, word);
-    let b = put_shown(buf, a, part(line, m.name.at, m.name.len), 64);
-    put_critical(buf, b, m.critical)
-}
-
-fn put_name_part(buf: &mut [u8], at: usize, word: &[u8], line: &[u8], n: NamePart) -> usize
-    requires { (at + 92 ≤ length buf.old) × (length word.now ≤ 11) }
-    ensures { Within at 92 result }
-{
-    match n {
-        NamePart::Absent => at,
-        NamePart::Is(m) => put_name(buf, at, word, line, m),
+    let Some(marked) = name else { return };
+    row.text(word);
+    row.shown(part(line, marked.name.at, marked.name.len), 64);
+    if marked.critical {
+        row.text(" (critical)");
     }
 }
 
 // Every field that a reading shows. Its names are places in the line.
-pub fn put_fields(buf: &mut [u8], at: usize, line: &[u8], s: Shown) -> usize
-    requires { at + 294 ≤ length buf.old }
-    ensures { Within at 294 result }
+pub fn put_fields<const N: usize>(row: &mut Row<N>, line: &[u8], shown: Shown)
+    requires { length row.old + 294 ≤ N }
+    ensures { Within (length row.old) 294 (length row.new) }
 {
-    let date = s.date;
-    let time = s.time;
-    let offset = s.offset;
-    let zone = s.zone;
-    let calendar = s.calendar;
-    let a = put_date_part(buf, at, date);
-    let b = put_time_part(buf, a, date, time);
-    let c = put_offset_part(buf, b, offset);
-    let d = put_name_part(buf, c, b", zone ", line, zone);
-    put_name_part(buf, d, b", calendar ", line, calendar)
+    if let Some(date) = shown.date {
+        put_date(row, date);
+    }
+    if let Some(clock) = shown.time {
+        row.text(if shown.date.is_some() {
+            ", time "
+        } else {
+            "time "
+        });
+        put_clock(row, clock);
+    }
+    if let Some(offset) = shown.offset {
+        put_offset(row, offset);
+    }
+    put_name(row, ", zone ", line, shown.zone);
+    put_name(row, ", calendar ", line, shown.calendar);
 }

@@ -3,125 +3,85 @@ ghost use Rattle.std.specs.Prelude.{◌+◌, ◌≤◌, length};
 ghost use Rattle.audit_words.specs.Within.{Within};
 
 use audit_fields::put_fields;
-use audit_tally::kinds::{Change, Kind, Verdict, kind_of};
-use audit_words::columns::{put_blanks, put_column, put_shown};
-use audit_words::words::{put_change, put_refusal};
-use record::{Reading, Shown};
-use text::put::{put_byte, put_bytes};
+use audit_tally::kinds::{Change, Kind, Verdict};
+use audit_words::row::Row;
+use audit_words::words::{change_words, put_refusal};
+
+// A line of the log, and what is said of it.
+#[derive(Clone, Copy)]
+pub struct Line<'a> {
+    pub number: u64,
+    // How wide the line is, of which `text` may be the start.
+    pub width: u64,
+    pub text: &'a [u8],
+    pub verdict: Verdict,
+    pub change: Option<Change>,
+}
 
 // The mark by which the lines to look at are found: `!` refused, `?` read and none of ours.
-fn mark_of(k: Kind) -> u8 {
-    match k {
+fn mark_of(kind: Kind) -> u8 {
+    match kind {
         Kind::Refused(_) => b'!',
         Kind::Ours => b' ',
         Kind::Foreign => b'?',
     }
 }
 
-fn put_head(buf: &mut [u8], at: usize, mark: u8, number: u64, width: u64) -> usize
-    requires { at + 58 ≤ length buf.old }
-    ensures { Within at 58 result }
+fn put_head<const N: usize>(row: &mut Row<N>, line: Line)
+    requires { length row.old + 58 ≤ N }
+    ensures { Within (length row.old) 58 (length row.new) }
 {
-    let a = put_byte(buf, at, mark);
-    let b = put_column(buf, a, 8, number);
-    let c = put_blanks(buf, b, 2);
-    let d = put_column(buf, c, 5, width);
-    put_blanks(buf, d, 2)
-}
-
-fn put_ok(buf: &mut [u8], at: usize, ours: bool) -> usize
-    requires { at + 14 ≤ length buf.old }
-    ensures { Within at 14 result }
-{
-    if ours {
-        return put_bytes(buf, at, b"ok, ours: ");
-    }
-    put_bytes(buf, at, b"ok, not ours: ")
-}
-
-fn put_accepted(buf: &mut [u8], at: usize, line: &[u8], ours: bool, s: Shown) -> usize
-    requires { at + 308 ≤ length buf.old }
-    ensures { Within at 308 result }
-{
-    let a = put_ok(buf, at, ours);
-    put_fields(buf, a, line, s)
+    row.byte(mark_of(line.verdict.kind()));
+    row.column(8, line.number);
+    row.blanks(2);
+    row.column(5, line.width);
+    row.blanks(2);
 }
 
 // A text of ours can be refused for a goal that asks for more.
-fn put_still_ours(buf: &mut [u8], at: usize, ours: bool) -> usize
-    requires { at + 19 ≤ length buf.old }
-    ensures { Within at 19 result }
+fn put_verdict<const N: usize>(row: &mut Row<N>, text: &[u8], verdict: Verdict)
+    requires { length row.old + 308 ≤ N }
+    ensures { Within (length row.old) 308 (length row.new) }
 {
-    if ours {
-        return put_bytes(buf, at, b"; the text is ours");
-    }
-    at
-}
-
-fn put_refused(buf: &mut [u8], at: usize, refusal: u8, ours: bool) -> usize
-    requires { at + 113 ≤ length buf.old }
-    ensures { Within at 113 result }
-{
-    let a = put_refusal(buf, at, refusal);
-    put_still_ours(buf, a, ours)
-}
-
-fn put_verdict(buf: &mut [u8], at: usize, line: &[u8], v: Verdict) -> usize
-    requires { at + 308 ≤ length buf.old }
-    ensures { Within at 308 result }
-{
-    let r = v.reading;
-    match r {
-        Reading::Accepted(s) => put_accepted(buf, at, line, v.ours, s),
-        Reading::Refused(k) => put_refused(buf, at, k, v.ours),
-    }
-}
-
-fn put_changed(buf: &mut [u8], at: usize, wider: bool) -> usize
-    requires { at + 64 ≤ length buf.old }
-    ensures { Within at 64 result }
-{
-    let a = put_bytes(buf, at, b"; the year's width changes ");
-    put_change(buf, a, wider)
-}
-
-fn put_note(buf: &mut [u8], at: usize, change: Change) -> usize
-    requires { at + 64 ≤ length buf.old }
-    ensures { Within at 64 result }
-{
-    match change {
-        Change::Same => at,
-        Change::Wider => put_changed(buf, at, true),
-        Change::Narrower => put_changed(buf, at, false),
+    match verdict.reading {
+        Ok(shown) => {
+            row.text(if verdict.ours {
+                "ok, ours: "
+            } else {
+                "ok, not ours: "
+            });
+            put_fields(row, text, shown);
+        }
+        Err(refusal) => {
+            put_refusal(row, refusal);
+            if verdict.ours {
+                row.text("; the text is ours");
+            }
+        }
     }
 }
 
 // The line of a row with the verdict, below the text.
-fn put_words(buf: &mut [u8], at: usize, line: &[u8], v: Verdict, change: Change) -> usize
-    requires { at + 392 ≤ length buf.old }
-    ensures { Within at 392 result }
+fn put_words<const N: usize>(row: &mut Row<N>, line: Line)
+    requires { length row.old + 392 ≤ N }
+    ensures { Within (length row.old) 392 (length row.new) }
 {
-    let a = put_byte(buf, at, b'\n');
-    let b = put_blanks(buf, a, 18);
-    let c = put_verdict(buf, b, line, v);
-    let d = put_note(buf, c, change);
-    put_byte(buf, d, b'\n')
+    row.byte(b'\n');
+    row.blanks(18);
+    put_verdict(row, line.text, line.verdict);
+    if let Some(change) = line.change {
+        row.text("; the year's width changes ");
+        row.text(change_words(change));
+    }
+    row.byte(b'\n');
 }
 
-// A row whole. `width` is the width of the line, of which `line` may be the start: no more than 190 columns are shown, as many as a stamp of ours takes.
-pub fn put_row(
-    buf: &mut [u8],
-    at: usize,
-    number: u64,
-    width: u64,
-    line: &[u8],
-    v: Verdict,
-    change: Change,
-) -> usize
-    requires { at + 646 ≤ length buf.old }
-    ensures { Within at 646 result }
+// A row whole. No more than 190 columns of the text are shown, as many as a stamp of ours takes.
+pub fn put_row<const N: usize>(row: &mut Row<N>, line: Line)
+    requires { length row.old + 646 ≤ N }
+    ensures { Within (length row.old) 646 (length row.new) }
 {
-    let a = put_head(buf, at, mark_of(kind_of(v)), number, width);
-    let b = put_shown(buf, a, line, 190);
-    put_words(buf, b, line, v, change)
+    put_head(row, line);
+    row.shown(line.text, 190);
+    put_words(row, line);
 }

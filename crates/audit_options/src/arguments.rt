@@ -1,7 +1,9 @@
 // What the arguments ask for.
-use audit_words::words::put_goal;
+use audit_tally::kinds::{Asked, Rows};
+use audit_words::words::{GOALS, goal_name};
+use record::Goal;
 use std::env::{Env, FillError};
-use text::walk::{first, part, rest, same};
+use std::fmt;
 
 // What is wrong with the arguments.
 #[derive(Clone, Copy)]
@@ -13,22 +15,36 @@ pub enum Fault {
     SecondFile,
 }
 
-// What is to be done. A file and a fault are told by the number of their argument.
+impl fmt::Display for Fault {
+    fn fmt<W: fmt::Write>(&self, f: &mut fmt::Formatter<W>) -> fmt::Result {
+        f.write_str(match self {
+            Fault::TooLong => "an argument is too long",
+            Fault::NoOption => "no such option: ",
+            Fault::NoGoal => "no such goal: ",
+            Fault::GoalMissing => "--goal wants a goal after it",
+            Fault::SecondFile => "one log at a time, and this is the second: ",
+        })
+    }
+}
+
+// A fault, with the number of its argument.
+#[derive(Clone, Copy)]
+pub struct Complaint {
+    pub what: Fault,
+    pub at: usize,
+}
+
+// What is to be done. The log is the file that the argument of this number names; without one, standard input.
 #[derive(Clone, Copy)]
 pub enum Task {
-    Input,
-    File(usize),
+    Audit(Option<usize>),
     Help,
-    Complain { what: Fault, at: usize },
 }
 
 #[derive(Clone, Copy)]
 pub struct Options {
     pub task: Task,
-    // The goal's number.
-    pub goal: u32,
-    // Lines are printed from this weight on: 0 all, 1 those that are not ours, 2 those refused, 3 none.
-    pub from: u8,
+    pub asked: Asked,
     // Whether the next argument names the goal.
     naming: bool,
 }
@@ -36,237 +52,117 @@ pub struct Options {
 impl Options {
     fn new() -> Self {
         Options {
-            task: Task::Input,
-            goal: 0,
-            from: 0,
+            task: Task::Audit(None),
+            asked: Asked {
+                goal: Goal::Stamp,
+                rows: Rows::All,
+            },
             naming: false,
         }
     }
 
-    fn with_task(self, task: Task) -> Self {
+    fn printing(self, rows: Rows) -> Self {
         Options {
-            task,
-            goal: self.goal,
-            from: self.from,
+            asked: Asked { rows, ..self.asked },
+            ..self
+        }
+    }
+
+    fn for_goal(self, word: &[u8]) -> Result<Self, Fault> {
+        let goal = goal_named(word).ok_or(Fault::NoGoal)?;
+        Ok(Options {
+            asked: Asked { goal, ..self.asked },
             naming: false,
+            ..self
+        })
+    }
+
+    fn of_file(self, at: usize) -> Result<Self, Fault> {
+        match self.task {
+            Task::Audit(None) => Ok(Options {
+                task: Task::Audit(Some(at)),
+                ..self
+            }),
+            _ => Err(Fault::SecondFile),
         }
     }
 
-    fn with_fault(self, what: Fault, at: usize) -> Self {
-        self.with_task(Task::Complain { what, at })
-    }
-
-    fn printing_from(mut self, from: u8) -> Self {
-        self.from = from;
-        self
-    }
-
-    fn naming_goal(mut self) -> Self {
-        self.naming = true;
-        self
-    }
-
-    fn with_goal(mut self, goal: u32) -> Self {
-        self.goal = goal;
-        self.naming = false;
-        self
-    }
-}
-
-// What a word of the arguments is.
-#[derive(Clone, Copy)]
-enum Word {
-    Help,
-    From(u8),
-    Goal,
-    GoalIs,
-    NoOption,
-    File,
-}
-
-fn option_of(word: &[u8]) -> Word {
-    if same(word, b"--help") {
-        return Word::Help;
-    }
-    if same(word, b"--not-ours") {
-        return Word::From(1);
-    }
-    if same(word, b"--refused") {
-        return Word::From(2);
-    }
-    if same(word, b"--summary") {
-        return Word::From(3);
-    }
-    if same(word, b"--goal") {
-        return Word::Goal;
-    }
-    if same(part(word, 0, 7), b"--goal=") {
-        return Word::GoalIs;
-    }
-    Word::NoOption
-}
-
-fn word_of(word: &[u8]) -> Word {
-    if first(word) == b'-' {
-        return option_of(word);
-    }
-    Word::File
-}
-
-fn is_goal(word: &[u8], goal: u32) -> bool {
-    let mut name = [0u8; 10];
-    let n = put_goal(&mut name, 0, goal);
-    same(word, part(&name, 0, n))
-}
-
-fn goal_of_digit(b: u8) -> u32 {
-    match b {
-        48..=54 => (b - 48) as u32,
-        _ => 7,
-    }
-}
-
-// The number of a goal by its number; 7 where there is none.
-fn goal_numbered(word: &[u8]) -> u32 {
-    if word.len() == 1 {
-        return goal_of_digit(first(word));
-    }
-    7
-}
-
-// The number of a goal by its name, or by its number; 7 where there is none.
-fn goal_named(word: &[u8]) -> u32 {
-    let mut goal = 0;
-    while goal < 7 {
-        if is_goal(word, goal) {
-            return goal;
+    // With the word that is argument `at`.
+    fn with(self, word: &[u8], at: usize) -> Result<Self, Fault> {
+        if self.naming {
+            return self.for_goal(word);
         }
-        goal += 1;
+        if let Some(name) = word.strip_prefix(b"--goal=") {
+            return self.for_goal(name);
+        }
+        match word {
+            b"--help" => Ok(Options {
+                task: Task::Help,
+                ..self
+            }),
+            b"--not-ours" => Ok(self.printing(Rows::NotOurs)),
+            b"--refused" => Ok(self.printing(Rows::Refused)),
+            b"--summary" => Ok(self.printing(Rows::Nothing)),
+            b"--goal" => Ok(Options {
+                naming: true,
+                ..self
+            }),
+            [b'-', ..] => Err(Fault::NoOption),
+            _ => self.of_file(at),
+        }
     }
-    goal_numbered(word)
-}
 
-fn choose_goal(options: Options, word: &[u8], i: usize) -> Options {
-    let goal = goal_named(word);
-    if goal <= 6 {
-        return options.with_goal(goal);
-    }
-    options.with_fault(Fault::NoGoal, i)
-}
-
-fn choose_file(options: Options, i: usize) -> Options {
-    let task = options.task;
-    match task {
-        Task::Input => options.with_task(Task::File(i)),
-        _ => options.with_fault(Fault::SecondFile, i),
-    }
-}
-
-fn follow(options: Options, word: &[u8], i: usize) -> Options {
-    match word_of(word) {
-        Word::Help => options.with_task(Task::Help),
-        Word::From(from) => options.printing_from(from),
-        Word::Goal => options.naming_goal(),
-        Word::GoalIs => choose_goal(options, rest(word, 7), i),
-        Word::NoOption => options.with_fault(Fault::NoOption, i),
-        Word::File => choose_file(options, i),
+    // After the last argument.
+    fn whole(self) -> Result<Self, Fault> {
+        if self.naming {
+            return Err(Fault::GoalMissing);
+        }
+        Ok(self)
     }
 }
 
-fn follow_word(options: Options, word: &[u8], i: usize) -> Options {
-    if options.naming {
-        return choose_goal(options, word, i);
+// A goal by its number, of one digit.
+fn goal_numbered(word: &[u8]) -> Option<Goal> {
+    match word {
+        [digit] => Goal::try_from(u32::from(digit.wrapping_sub(b'0'))).ok(),
+        _ => None,
     }
-    follow(options, word, i)
 }
 
-fn follow_argument(env: &impl Env, options: Options, i: usize) -> Options {
-    let mut word = [0u8; 4096];
-    match env.arg(i, &mut word) {
-        Ok(n) => follow_word(options, &word[..n], i),
-        Err(_) => options.with_fault(Fault::TooLong, i),
-    }
+// A goal by its name, or by its number.
+fn goal_named(word: &[u8]) -> Option<Goal> {
+    GOALS
+        .into_iter()
+        .find(|&goal| goal_name(goal).as_bytes() == word)
+        .or(goal_numbered(word))
 }
 
 // After a fault, and after `--help`, nothing more is looked at.
-fn is_settled(task: Task) -> bool {
-    match task {
-        Task::Input => false,
-        Task::File(_) => false,
-        Task::Help => true,
-        Task::Complain { what: _, at: _ } => true,
-    }
-}
-
-fn next(env: &impl Env, options: Options, i: usize) -> Options {
-    let task = options.task;
-    if is_settled(task) {
-        return options;
-    }
-    follow_argument(env, options, i)
-}
-
-fn follow_all(env: &impl Env, count: usize) -> Options {
+pub fn read(env: &impl Env) -> Result<Options, Complaint> {
     let mut options = Options::new();
-    let mut i = 1;
-    while i < count {
-        options = next(env, options, i);
-        i += 1;
-    }
-    options
-}
-
-fn checked(options: Options, count: usize) -> Options {
-    if options.naming {
-        return options.with_fault(Fault::GoalMissing, count);
-    }
-    options
-}
-
-// Whether there is an argument i, however long it is.
-fn is_argument(env: &impl Env, i: usize) -> bool {
-    match env.arg(i, &mut []) {
-        Ok(_) => true,
-        Err(FillError::TooLong) => true,
-        Err(FillError::NotPresent) => false,
-    }
-}
-
-// How many arguments the program was started with, its own name among them.
-fn argument_count(env: &impl Env) -> usize {
-    for i in 0..usize::MAX {
-        if !is_argument(env, i) {
-            return i;
+    for at in 1..usize::MAX {
+        let mut word = [0u8; 4096];
+        options = match env.arg(at, &mut word) {
+            Ok(n) => options.with(&word[..n], at),
+            Err(FillError::TooLong) => Err(Fault::TooLong),
+            Err(FillError::NotPresent) => {
+                return options.whole().map_err(|what| Complaint { what, at });
+            }
+        }
+        .map_err(|what| Complaint { what, at })?;
+        if matches!(options.task, Task::Help) {
+            return Ok(options);
         }
     }
-    usize::MAX
-}
-
-pub fn read(env: &impl Env) -> Options {
-    let count = argument_count(env);
-    checked(follow_all(env, count), count)
-}
-
-fn say(to: &impl Print, s: &[u8]) {
-    let _ = to.write_all(s);
-}
-
-fn say_fault(to: &impl Print, what: Fault) {
-    match what {
-        Fault::TooLong => say(to, b"audit: an argument is too long"),
-        Fault::NoOption => say(to, b"audit: no such option: "),
-        Fault::NoGoal => say(to, b"audit: no such goal: "),
-        Fault::GoalMissing => say(to, b"audit: --goal wants a goal after it"),
-        Fault::SecondFile => say(to, b"audit: one log at a time, and this is the second: "),
-    }
+    Ok(options)
 }
 
 // Says what is wrong with the arguments; `to` is standard error.
-pub fn complain(env: &impl Env, to: &impl Print, what: Fault, at: usize) {
+pub fn complain(env: &impl Env, to: &impl Print, complaint: Complaint) {
     let mut word = [0u8; 4096];
-    say_fault(to, what);
-    if let Ok(n) = env.arg(at, &mut word) {
-        say(to, &word[..n]);
+    let _ = print!(to; "audit: {}", complaint.what);
+    if let Ok(n) = env.arg(complaint.at, &mut word) {
+        let _ = to.write_all(&word[..n]);
     }
-    say(to, b"\naudit: --help says how it is used\n");
+    let _ = print!(to; "\naudit: --help says how it is used\n");
 }

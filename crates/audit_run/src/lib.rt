@@ -1,4 +1,4 @@
-// A run over a log: where it stands, what it keeps of a line that a chunk cuts, and what waits to be printed.
+// A run over a log: what is asked of it, where it stands and what waits to be printed; and what is kept of a line that a chunk cuts.
 #![tactic(auto)]
 
 pub mod line;

@@ -1,63 +1,72 @@
-// A line's end: the line feed, the carriage return before it, and what is kept of a line whose end is still to come.
-ghost use Rattle.std.specs.Prelude.{◌≤◌, length};
+// What is kept of a line that a chunk cuts, and the carriage return at a line's end.
+ghost use Rattle.std.specs.Prelude.{◌≡◌, ◌≢◌, ◌⊎◌, ◌+◌, ◌-◌, ◌%◌, ◌^◌, List, ℕ, [], ◌∷◌, ◌++◌, length, take};
 
-use crate::state::State;
-use text::put::put_bytes;
+use audit_words::row::Row;
 
-// What is kept of a line that a chunk cuts.
-pub type Kept = [u8; 1026];
+// The most that is kept of a line: enough to see that it is too long, a carriage return and all.
+pub const MOST: usize = 1026;
 
-// The place of the first line feed from `from` on, or the end.
-pub fn feed_from(chunk: &[u8], from: usize) -> usize
-    requires { from ≤ length chunk.now }
-    ensures { (from ≤ result) × (result ≤ length chunk.now) }
+// A line whose end is still to come.
+#[derive(Drop)]
+pub struct Kept {
+    // Its first bytes.
+    pub start: Row<MOST>,
+    // How many bytes it has so far, and the last of them.
+    pub width: u64,
+    pub last: Option<u8>,
+}
+
+impl Kept {
+    pub fn new() -> Self
+        ensures { (result.start ≡ []) × (result.width ≡ 0) × (result.last ≡ None) }
+    {
+        Kept {
+            start: Row::new(),
+            width: 0,
+            last: None,
+        }
+    }
+
+    pub fn clear(&mut self)
+        ensures { (self.new.start ≡ []) × (self.new.width ≡ 0) × (self.new.last ≡ None) }
+    {
+        self.start.clear();
+        self.width = 0;
+        self.last = None;
+    }
+
+    // A further part of the line.
+    pub fn add(&mut self, piece: &[u8])
+        ensures start { self.new.start ≡ self.old.start ++ take (1026 - length self.old.start) piece.now }
+        ensures width { self.new.width ≡ (self.old.width + length piece.now) % 2 ^ 64 }
+        ensures same_last { piece.now ≡ [] → self.new.last ≡ self.old.last }
+        ensures last { (xs : List ℕ) (b : ℕ) → piece.now ≡ xs ++ b ∷ [] → self.new.last ≡ Some b }
+    {
+        self.start.put_some(piece);
+        self.width = self.width.wrapping_add(piece.len() as u64);
+        self.last = piece.last().copied().or(self.last);
+    }
+
+    // How wide the line is without the carriage return at its end.
+    pub fn width_without_return(&self) -> u64
+        ensures ended { self.now.last ≡ Some 13 → result ≡ self.now.width - 1 }
+        ensures whole { self.now.last ≢ Some 13 → result ≡ self.now.width }
+    {
+        if self.last == Some(b'\r') {
+            self.width.saturating_sub(1)
+        } else {
+            self.width
+        }
+    }
+}
+
+// A line without the carriage return at its end.
+pub fn without_return(line: &[u8]) -> &[u8]
+    ensures ended { (xs : List ℕ) → line.now ≡ xs ++ 13 ∷ [] → result.now ≡ xs }
+    ensures whole { (result.now ≡ line.now) ⊎ (line.now ≡ result.now ++ 13 ∷ []) }
 {
-    let mut i = from;
-    while i < chunk.len() {
-        if chunk[i] == 10 {
-            return i;
-        }
-        i += 1;
+    match line {
+        [start @ .., b'\r'] => start,
+        _ => line,
     }
-    i
-}
-
-pub fn last_of(s: &[u8], before: u8) -> u8 {
-    if 0 < s.len() { s[s.len() - 1] } else { before }
-}
-
-// A line without the carriage return at its end, and the width that it then has.
-pub fn without_return(line: &[u8]) -> &[u8] {
-    if 0 < line.len() {
-        let n = line.len() - 1;
-        if line[n] == 13 {
-            return &line[0..n];
-        }
-    }
-    line
-}
-
-pub fn width_without_return(width: u64, last: u8) -> u64 {
-    if last == 13 {
-        return std::num::wrapping_sub_u64(width, 1);
-    }
-    width
-}
-
-// Puts as much of a text as there is room for.
-pub(crate) fn put_some(buf: &mut [u8], at: usize, s: &[u8]) -> usize {
-    if buf.len() <= at {
-        return at;
-    }
-    let room = buf.len() - at;
-    if s.len() <= room {
-        return put_bytes(buf, at, s);
-    }
-    put_bytes(buf, at, &s[0..room])
-}
-
-// A part of a line whose end is still to come.
-pub fn keep(piece: &[u8], kept: &mut Kept, state: State) -> State {
-    let n = put_some(kept, state.kept, piece);
-    state.keeping(n, piece.len() as u64, last_of(piece, state.last))
 }

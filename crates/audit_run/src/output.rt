@@ -1,61 +1,52 @@
-// Standard output by way of a lent buffer: rows wait in it, and are written out when the next has no room, and at the end.
-ghost use Rattle.std.specs.Prelude.{◌+◌, ◌≤◌};
+// Standard output by way of a buffer: rows wait in it, and are written out when the next has no room, and at the end.
+ghost use Rattle.std.specs.Prelude.{◌≡◌, ◌+◌, ◌<◌, ◌≤◌, [], length};
 
-use std::cell::Cell;
+use audit_words::row::Row;
 use std::io::{Error, Stdout};
-use text::walk::part;
 
-// The buffer, what it is written out to, and why the last write failed that did.
+// How many bytes may wait.
+pub const SIZE: usize = 65536;
+
 #[derive(Drop)]
 pub struct Out {
-    pub bytes: [u8; 65536],
+    // What waits.
+    pub waiting: Row<SIZE>,
+    // Why the last write failed that did; nothing, if all was taken that was written out.
+    pub error: Option<Error>,
     to: Stdout,
-    error: Cell<Option<Error>>,
 }
 
 impl Out {
-    pub fn new(to: Stdout) -> Self {
+    pub fn new(to: Stdout) -> Self
+        ensures { (result.waiting ≡ []) × (result.error ≡ None) }
+    {
         Out {
-            bytes: [0; 65536],
+            waiting: Row::new(),
+            error: None,
             to,
-            error: Cell::new(None),
         }
     }
 
-    pub fn error(&self) -> Option<Error> {
-        self.error.get()
-    }
-}
-
-// How many bytes wait, and whether all that was written out before them was taken.
-#[derive(Clone, Copy)]
-pub struct Waiting {
-    pub bytes: usize,
-    pub ok: bool,
-}
-
-// Writes out the first n bytes.
-pub fn flush(out: &Out, n: usize) -> bool {
-    match out.to.write_all(part(&out.bytes, 0, n)) {
-        Ok(()) => true,
-        Err(error) => {
-            out.error.set(Some(error));
-            false
+    // Writes out what waits.
+    pub fn flush(&mut self)
+        ensures { self.new.waiting ≡ [] }
+    {
+        if let Err(error) = self.to.write_all(self.waiting.bytes()) {
+            self.error = Some(error);
         }
+        self.waiting.clear();
     }
-}
 
-// Room for 1,024 bytes more, as no row and no line of the summary has; where it is missing, what waits is written out first.
-pub fn room(out: &Out, w: Waiting) -> Waiting
-    ensures { result.bytes + 1024 ≤ 65536 }
-{
-    let n = w.bytes;
-    if n <= 64512 {
-        return w;
-    }
-    let taken = flush(out, n);
-    Waiting {
-        bytes: 0,
-        ok: w.ok & taken,
+    // Room for 1,024 bytes more, as no row and no line of the summary has; where it is missing, what waits is written out first.
+    pub fn room(&mut self)
+        ensures room { length self.new.waiting + 1024 ≤ 65536 }
+        ensures waits { length self.old.waiting ≤ 64512 → self.new ≡ self.old }
+        ensures written_out { 64512 < length self.old.waiting → self.new.waiting ≡ [] }
+    {
+        let n = self.waiting.bytes().len();
+        if n <= 64512 {
+            return;
+        }
+        self.flush();
     }
 }

@@ -1,112 +1,108 @@
-// What is counted, in one lent table: for each kind of line, by its slot, how many there are and the number of the first; and the numbers of the
-// first lines at which the year's width changes.
+// What is counted: for each kind of line how many there are and the number of the first, and the lines at which the year's width changes.
+ghost use Rattle.std.specs.Prelude.{◌≡◌, ◌+◌, ◌%◌, ◌^◌, replicate};
+ghost use Rattle.std.proofs.Common.{set};
+ghost use Rattle.audit_tally.specs.Tally.{no_lines, noted, changed, refused_by};
+ghost use Rattle.text.specs.Refusal.{number};
+
 use crate::kinds::{Change, Kind};
+use text::Refusal;
 
-pub type Table = [u64; 96];
-
-pub const EMPTY: Table = [0; 96];
-
-// The slots: all refused lines; each refusal's number is the slot of its own lines; the lines read.
-pub const REFUSED: usize = 0;
-
-pub const OURS: usize = 16;
-
-pub const FOREIGN: usize = 17;
-
-// The number of the first line of a slot stands so far behind its count.
-const FIRST: usize = 32;
-
-// The numbers of the lines at which the year's width changes stand here, the first of them.
-const CHANGES: usize = 64;
-
-pub const KEPT: u64 = 20;
-
-fn at(table: &Table, slot: usize) -> u64 {
-    if slot < 96 { table[slot] } else { 0 }
+// How many lines there are, and the number of the first.
+#[derive(Clone, Copy)]
+pub struct Tally {
+    pub count: u64,
+    pub first: Option<u64>,
 }
 
-fn set(table: &mut Table, slot: usize, value: u64) {
-    if slot < 96 {
-        table[slot] = value;
+impl Tally {
+    const NONE: Tally = Tally {
+        count: 0,
+        first: None,
+    };
+
+    fn note(&mut self, line: u64)
+        ensures { self.new ≡ noted self.old line }
+    {
+        self.count = self.count.wrapping_add(1);
+        self.first = self.first.or(Some(line));
     }
 }
 
-pub fn one_more(n: u64) -> u64 {
-    std::num::wrapping_add_u64(n, 1)
+// How many changes of the year's width are kept, each with the number of its line.
+pub const KEPT: usize = 20;
+
+#[derive(Clone, Copy)]
+pub struct Changes {
+    pub count: u64,
+    pub first: [Option<(u64, Change)>; KEPT],
 }
 
-// How many lines a slot has.
-pub fn count(table: &Table, slot: usize) -> u64 {
-    at(table, slot)
-}
-
-// The number of the first line of a slot; 0 where it has none.
-pub fn first(table: &Table, slot: usize) -> u64 {
-    if slot < FIRST {
-        return at(table, slot + FIRST);
+impl Changes {
+    fn note(&mut self, line: u64, change: Change)
+        ensures { self.new ≡ changed self.old line change }
+    {
+        let n = self.count as usize;
+        if n < KEPT {
+            self.first[n] = Some((line, change));
+        }
+        self.count = self.count.wrapping_add(1);
     }
-    0
 }
 
-// The number of the line of change i.
-pub fn change_line(table: &Table, i: u64) -> u64 {
-    if i < KEPT {
-        return at(table, CHANGES + i as usize);
-    }
-    0
+#[derive(Clone, Copy)]
+pub struct Counts {
+    pub ours: Tally,
+    pub foreign: Tally,
+    pub refused: Tally,
+    // The refused lines by the number of the refusal.
+    pub by_refusal: [Tally; 16],
+    pub changes: Changes,
 }
 
-fn note_first(table: &mut Table, slot: usize, count: u64, line: u64) {
-    if count == 0 {
-        if slot < FIRST {
-            set(table, slot + FIRST, line);
+impl Counts {
+    pub fn new() -> Self
+        ensures kinds { (result.ours ≡ no_lines) × (result.foreign ≡ no_lines) × (result.refused ≡ no_lines) }
+        ensures refusals { (k : Refusal) → refused_by result k ≡ no_lines }
+        ensures changes { (result.changes.count ≡ 0) × (result.changes.first ≡ replicate 20 None) }
+    {
+        Counts {
+            ours: Tally::NONE,
+            foreign: Tally::NONE,
+            refused: Tally::NONE,
+            by_refusal: [Tally::NONE; 16],
+            changes: Changes {
+                count: 0,
+                first: [None; KEPT],
+            },
         }
     }
-}
 
-fn note(table: &mut Table, slot: usize, line: u64) {
-    let n = at(table, slot);
-    note_first(table, slot, n, line);
-    set(table, slot, one_more(n));
-}
-
-// The slot of a refusal's number; what is no such number is only counted among all refused lines.
-fn note_number(table: &mut Table, refusal: u8, line: u64) {
-    if refusal < 16 {
-        note(table, refusal as usize, line);
+    // The lines that one refusal has.
+    pub fn refused_by(&self, refusal: Refusal) -> Tally
+        ensures { result ≡ refused_by self.now refusal }
+    {
+        self.by_refusal[refusal as usize]
     }
-}
 
-fn note_refused(table: &mut Table, refusal: u8, line: u64) {
-    note(table, REFUSED, line);
-    note_number(table, refusal, line);
-}
-
-// A line of a kind.
-pub fn note_kind(table: &mut Table, kind: Kind, line: u64) {
-    match kind {
-        Kind::Refused(k) => note_refused(table, k, line),
-        Kind::Ours => note(table, OURS, line),
-        Kind::Foreign => note(table, FOREIGN, line),
+    // A line of a kind. Of the refused each is counted among all of them, and among those of its own refusal.
+    pub fn note(&mut self, kind: Kind, line: u64)
+        ensures ours { kind ≡ Kind.Ours → self.new ≡ record self.old { ours = noted self.old.ours line } }
+        ensures foreign { kind ≡ Kind.Foreign → self.new ≡ record self.old { foreign = noted self.old.foreign line } }
+        ensures refused { (k : Refusal) → kind ≡ Kind.Refused k → self.new ≡ record self.old { refused = noted self.old.refused line; by_refusal = set self.old.by_refusal (number k) (noted (refused_by self.old k) line) } }
+    {
+        match kind {
+            Kind::Ours => self.ours.note(line),
+            Kind::Foreign => self.foreign.note(line),
+            Kind::Refused(refusal) => {
+                self.refused.note(line);
+                self.by_refusal[refusal as usize].note(line);
+            }
+        }
     }
-}
 
-fn set_change(table: &mut Table, n: u64, line: u64) {
-    if n < KEPT {
-        set(table, CHANGES + n as usize, line);
-    }
-}
-
-fn note_place(table: &mut Table, n: u64, line: u64) -> u64 {
-    set_change(table, n, line);
-    one_more(n)
-}
-
-// A line that may change the year's width, after n changes; how many there are then.
-pub fn note_change(table: &mut Table, change: Change, n: u64, line: u64) -> u64 {
-    match change {
-        Change::Same => n,
-        Change::Wider => note_place(table, n, line),
-        Change::Narrower => note_place(table, n, line),
+    pub fn note_change(&mut self, line: u64, change: Change)
+        ensures { self.new ≡ record self.old { changes = changed self.old.changes line change } }
+    {
+        self.changes.note(line, change);
     }
 }

@@ -1,93 +1,112 @@
 // The words of the audit, each said once: why a text is refused, the names of the goals, the months, how the year's width changes.
-ghost use Rattle.std.specs.Prelude.{◌≡◌, ◌+◌, ◌≤◌, length};
+ghost use Rattle.std.specs.Prelude.{◌+◌, ◌≤◌, length, IfSome};
 ghost use Rattle.audit_words.specs.Within.{Within};
 
-use crate::columns::put_count;
-use text::put::put_bytes;
+use crate::row::Row;
+use audit_tally::kinds::Change;
+use record::Goal;
+use text::Refusal;
 
-// A byte as a number to be put.
-pub fn wide(n: u8) -> u64 {
-    n as u64
-}
+// The refusals, by their numbers.
+pub const REFUSALS: [Refusal; 15] = [
+    Refusal::NoRoom,
+    Refusal::BadField,
+    Refusal::BadName,
+    Refusal::BadParts,
+    Refusal::TooLong,
+    Refusal::BadText,
+    Refusal::UnknownCritical,
+    Refusal::LongFraction,
+    Refusal::OtherCalendar,
+    Refusal::CalendarClash,
+    Refusal::BadDay,
+    Refusal::ForbiddenZ,
+    Refusal::MissingPart,
+    Refusal::TooLarge,
+    Refusal::NoSuchGoal,
+];
 
-// Why a text is refused, by the number of the refusal.
-pub fn put_reason(buf: &mut [u8], at: usize, refusal: u8) -> usize
-    requires { at + 64 ≤ length buf.old }
-    ensures { Within at 64 result }
+// The goals, by their numbers.
+pub const GOALS: [Goal; 7] = [
+    Goal::Stamp,
+    Goal::Plain,
+    Goal::Zoned,
+    Goal::Instant,
+    Goal::Time,
+    Goal::YearMonth,
+    Goal::MonthDay,
+];
+
+// Why a text is refused, where a text can be.
+pub fn reason(refusal: Refusal) -> Option<&'static str>
+    ensures { IfSome result (λ words. length words.now ≤ 64) }
 {
     match refusal {
-        5 => put_bytes(buf, at, b"over 1,024 bytes"),
-        6 => put_bytes(buf, at, b"the form is wrong"),
-        7 => put_bytes(buf, at, b"a critical annotation other than u-ca"),
-        8 => put_bytes(buf, at, b"a fraction of more than nine digits"),
-        9 => put_bytes(buf, at, b"a calendar other than iso8601"),
-        10 => put_bytes(buf, at, b"a second calendar, and one of them is critical"),
-        11 => put_bytes(buf, at, b"the day is not in its month"),
-        12 => put_bytes(buf, at, b"Z, which the goal forbids"),
-        13 => put_bytes(
-            buf,
-            at,
-            b"a zone, time or offset that the goal needs is missing",
-        ),
-        _ => put_bytes(buf, at, b"for no reason that is known here"),
+        Refusal::TooLong => Some("over 1,024 bytes"),
+        Refusal::BadText => Some("the form is wrong"),
+        Refusal::UnknownCritical => Some("a critical annotation other than u-ca"),
+        Refusal::LongFraction => Some("a fraction of more than nine digits"),
+        Refusal::OtherCalendar => Some("a calendar other than iso8601"),
+        Refusal::CalendarClash => Some("a second calendar, and one of them is critical"),
+        Refusal::BadDay => Some("the day is not in its month"),
+        Refusal::ForbiddenZ => Some("Z, which the goal forbids"),
+        Refusal::MissingPart => Some("a zone, time or offset that the goal needs is missing"),
+        _ => None,
     }
 }
 
 // A refusal: its number and why.
-pub fn put_refusal(buf: &mut [u8], at: usize, refusal: u8) -> usize
-    requires { at + 94 ≤ length buf.old }
-    ensures { Within at 94 result }
+pub fn put_refusal<const N: usize>(row: &mut Row<N>, refusal: Refusal)
+    requires { length row.old + 94 ≤ N }
+    ensures { Within (length row.old) 94 (length row.new) }
 {
-    let a = put_bytes(buf, at, b"refused ");
-    let b = put_count(buf, a, wide(refusal));
-    let c = put_bytes(buf, b, b": ");
-    put_reason(buf, c, refusal)
+    row.text("refused ");
+    row.number(refusal as u64);
+    row.text(": ");
+    row.text(reason(refusal).unwrap_or("for no reason that is known here"));
 }
 
-// The name of a goal, by its number.
-pub fn put_goal(buf: &mut [u8], at: usize, goal: u32) -> usize
-    requires { at + 10 ≤ length buf.old }
-    ensures { Within at 10 result }
+pub fn goal_name(goal: Goal) -> &'static str
+    ensures { length result.now ≤ 10 }
 {
     match goal {
-        0 => put_bytes(buf, at, b"stamp"),
-        1 => put_bytes(buf, at, b"plain"),
-        2 => put_bytes(buf, at, b"zoned"),
-        3 => put_bytes(buf, at, b"instant"),
-        4 => put_bytes(buf, at, b"time"),
-        5 => put_bytes(buf, at, b"year-month"),
-        _ => put_bytes(buf, at, b"month-day"),
+        Goal::Stamp => "stamp",
+        Goal::Plain => "plain",
+        Goal::Zoned => "zoned",
+        Goal::Instant => "instant",
+        Goal::Time => "time",
+        Goal::YearMonth => "year-month",
+        Goal::MonthDay => "month-day",
     }
-}
-
-// The three letters of a table from place `from` on.
-fn put_letters(buf: &mut [u8], at: usize, table: &[u8], from: usize) -> usize
-    requires { (at + 3 ≤ length buf.old) × (from + 3 ≤ length table.now) }
-    ensures { result ≡ at + 3 }
-{
-    let to = from + 3;
-    put_bytes(buf, at, &table[from..to])
 }
 
 // The name of a month, short; nothing for what is no month.
-pub fn put_month(buf: &mut [u8], at: usize, month: u8) -> usize
-    requires { at + 3 ≤ length buf.old }
-    ensures { Within at 3 result }
+pub fn month_name(month: u8) -> &'static str
+    ensures { length result.now ≤ 3 }
 {
-    if month <= 12 {
-        let from = month as usize * 3;
-        return put_letters(buf, at, b"---JanFebMarAprMayJunJulAugSepOctNovDec", from);
+    match month {
+        1 => "Jan",
+        2 => "Feb",
+        3 => "Mar",
+        4 => "Apr",
+        5 => "May",
+        6 => "Jun",
+        7 => "Jul",
+        8 => "Aug",
+        9 => "Sep",
+        10 => "Oct",
+        11 => "Nov",
+        12 => "Dec",
+        _ => "",
     }
-    at
 }
 
-// How the year's width changes: from four digits to a sign and six, or back.
-pub fn put_change(buf: &mut [u8], at: usize, wider: bool) -> usize
-    requires { at + 32 ≤ length buf.old }
-    ensures { Within at 32 result }
+// How the year's width changes.
+pub fn change_words(change: Change) -> &'static str
+    ensures { length result.now ≤ 32 }
 {
-    if wider {
-        return put_bytes(buf, at, b"from 4 digits to a sign and 6");
+    match change {
+        Change::Wider => "from 4 digits to a sign and 6",
+        Change::Narrower => "from a sign and 6 digits to 4",
     }
-    put_bytes(buf, at, b"from a sign and 6 digits to 4")
 }

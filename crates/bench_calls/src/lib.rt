@@ -8,18 +8,19 @@ ghost use Rattle.reader.specs.Goals.{read_goal, read_number};
 ghost use Rattle.bench_calls.specs.Told.{told};
 ghost use Rattle.bench_calls.specs.Sum.{reading_sum};
 
-use stamp::{DisplayOffset, Goal, WriteAnswer};
+use records::Words;
+use stamp::{Clock, Date, DisplayOffset, Goal, Precision, Refusal};
 
 pub mod records;
 pub mod sum;
 
 // What a writer answered as one number: the count of bytes, or 1,000 and the refusal's.
-fn told_of(a: WriteAnswer) -> usize
-    ensures { result ≡ told a }
+fn told_of(answer: Result<usize, Refusal>) -> usize
+    ensures { result ≡ told answer }
 {
-    match a {
-        WriteAnswer::Written(n) => n,
-        WriteAnswer::Refused(k) => 1000 + k as usize,
+    match answer {
+        Ok(n) => n,
+        Err(k) => 1000 + usize::from(u8::from(k)),
     }
 }
 
@@ -55,7 +56,8 @@ pub extern "C" fn bench_find_calendar(text: &[u8]) -> usize {
 // Three stamps as a caller makes them: a date, a time to the second beside it, and an instant in UTC with its precision.
 #[unsafe(no_mangle)]
 pub extern "C" fn bench_write_day(buf: &mut [u8], year: i32, month: u8, day: u8) -> usize {
-    told_of(stamp::write_stamp(buf, b"", records::day_of(year, month, day)))
+    let date = Date { year, month, day };
+    told_of(stamp::write_stamp(buf, b"", stamp::Stamp::empty().with_date(date)))
 }
 
 #[unsafe(no_mangle)]
@@ -68,9 +70,14 @@ pub extern "C" fn bench_write_second(
     minute: u8,
     second: u8,
 ) -> usize {
-    let clock = records::clock_of(hour, minute, second, 0);
-    let moment = records::moment_of(records::date_of(year, month, day), clock, records::AUTO);
-    told_of(stamp::write_stamp(buf, b"", moment))
+    let date = Date { year, month, day };
+    let clock = Clock {
+        hour,
+        minute,
+        second,
+        nanosecond: 0,
+    };
+    told_of(stamp::write_stamp(buf, b"", records::moment_of(date, clock, Precision::Auto)))
 }
 
 #[unsafe(no_mangle)]
@@ -85,8 +92,14 @@ pub extern "C" fn bench_write_instant(
     nanosecond: u32,
     precision: u8,
 ) -> usize {
-    let clock = records::clock_of(hour, minute, second, nanosecond);
-    let moment = records::moment_of(records::date_of(year, month, day), clock, precision);
+    let date = Date { year, month, day };
+    let clock = Clock {
+        hour,
+        minute,
+        second,
+        nanosecond,
+    };
+    let moment = records::moment_of(date, clock, records::precision_of(precision));
     told_of(stamp::write_stamp(buf, b"", moment.with_z(DisplayOffset::Auto)))
 }
 
@@ -101,32 +114,32 @@ pub extern "C" fn bench_write_stamp(
     if words.len() < records::WORDS {
         return 0;
     }
-    told_of(stamp::write_stamp(buf, lent, records::stamp_of(year, words)))
+    told_of(stamp::write_stamp(buf, lent, Words(words).stamp(year)))
 }
 
 #[unsafe(no_mangle)]
 pub extern "C" fn bench_write_date(buf: &mut [u8], year: i32, month: u8, day: u8) -> usize {
-    told_of(stamp::write_date(buf, records::date_of(year, month, day)))
+    told_of(stamp::write_date(buf, Date { year, month, day }))
 }
 
 #[unsafe(no_mangle)]
 pub extern "C" fn bench_write_time(buf: &mut [u8], words: &[u32]) -> usize {
-    told_of(stamp::write_time(buf, records::time_of(words)))
+    told_of(stamp::write_time(buf, Words(words).time()))
 }
 
 #[unsafe(no_mangle)]
 pub extern "C" fn bench_write_offset(buf: &mut [u8], words: &[u32]) -> usize {
-    told_of(stamp::write_offset(buf, records::offset_of(words)))
+    told_of(stamp::write_offset(buf, Words(words).offset()))
 }
 
 #[unsafe(no_mangle)]
 pub extern "C" fn bench_write_zone(buf: &mut [u8], lent: &[u8], words: &[u32]) -> usize {
-    told_of(stamp::write_zone(buf, lent, records::zone_of(words)))
+    told_of(stamp::write_zone(buf, lent, Words(words).zone()))
 }
 
 #[unsafe(no_mangle)]
 pub extern "C" fn bench_write_calendar(buf: &mut [u8], lent: &[u8], words: &[u32]) -> usize {
-    told_of(stamp::write_calendar(buf, lent, records::calendar_of(words)))
+    told_of(stamp::write_calendar(buf, lent, Words(words).calendar()))
 }
 
 #[unsafe(no_mangle)]
@@ -136,8 +149,8 @@ pub extern "C" fn bench_write_month_day(
     year: i32,
     words: &[u32],
 ) -> usize {
-    let date = records::date_in(year, words);
-    told_of(stamp::write_month_day(buf, lent, date, records::calendar_of(words)))
+    let words = Words(words);
+    told_of(stamp::write_month_day(buf, lent, words.date(year), words.calendar()))
 }
 
 #[unsafe(no_mangle)]
@@ -147,8 +160,8 @@ pub extern "C" fn bench_write_year_month(
     year: i32,
     words: &[u32],
 ) -> usize {
-    let date = records::date_in(year, words);
-    told_of(stamp::write_year_month(buf, lent, date, records::calendar_of(words)))
+    let words = Words(words);
+    told_of(stamp::write_year_month(buf, lent, words.date(year), words.calendar()))
 }
 
 // A duration of every part: its largest numbers in `large`, the rest in `words`.

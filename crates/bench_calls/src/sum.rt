@@ -1,132 +1,104 @@
 // What was read as one number: the sum of all its fields, wrapped at 64 bits, with a 1 for each part that is there. It reads every field once, and nothing
 // of the reading can be left out of the count.
-ghost use Rattle.std.specs.Prelude.{◌≡◌};
-ghost use Rattle.bench_calls.specs.Sum.{plus, one_if, is_negative, clock_sum, year_sum, day_sum, date_sum, time_sum, signed_sum, offset_sum, marked_sum, name_sum, shown_sum, reading_sum};
+ghost use Rattle.std.specs.Prelude.{◌≡◌, ℕ};
+ghost use Rattle.bench_calls.specs.Sum.{plus, clock_sum, year_sum, day_sum, part_sum, signed_sum, offset_sum, marked_sum, shown_sum, reading_sum};
 
 use stamp::{
-    Clock, ClockPart, Date, DatePart, DurationReading, DurationShown, MarkedName, NamePart,
-    Reading, Shown, ShownOffset, Sign, SignedClock,
+    Clock, Date, DurationReading, DurationShown, MarkedName, Reading, Shown, ShownOffset,
+    SignedClock,
 };
 
+#[tactic(auto, unfolding(crate::specs::Sum::plus))]
 fn plus_of(a: u64, b: u64) -> u64
     ensures { result ≡ plus a b }
 {
-    std::num::wrapping_add_u64(a, b)
+    a.wrapping_add(b)
 }
 
-fn wide(x: u8) -> u64
-    ensures { result ≡ x }
-{
-    x as u64
+// What has a sum of its own fields.
+trait Summed {
+    ghost sum_of: { Self → ℕ };
+
+    fn sum(self) -> u64
+        ensures { result ≡ sum_of self };
 }
 
-fn wide_word(x: u32) -> u64
-    ensures { result ≡ x }
-{
-    x as u64
+impl Summed for Clock {
+    ghost sum_of = { clock_sum };
+
+    #[tactic(auto, unfolding(crate::specs::Sum::clock_sum))]
+    fn sum(self) -> u64 {
+        let hm = plus_of(self.hour.into(), self.minute.into());
+        let sn = plus_of(self.second.into(), self.nanosecond.into());
+        plus_of(hm, sn)
+    }
 }
 
-fn wide_size(x: usize) -> u64
-    ensures { result ≡ x }
-{
-    x as u64
-}
-
-fn one_if(b: bool) -> u64
-    ensures { result ≡ one_if b }
-{
-    if b { 1 } else { 0 }
-}
-
-fn clock_sum(c: Clock) -> u64
-    ensures { result ≡ clock_sum c }
-{
-    let hm = plus_of(wide(c.hour), wide(c.minute));
-    let sn = plus_of(wide(c.second), wide_word(c.nanosecond));
-    plus_of(hm, sn)
-}
-
-fn is_negative(year: i32) -> bool
-    ensures { result ≡ is_negative year }
-{
-    year < 0
-}
-
+#[tactic(auto, unfolding(crate::specs::Sum::year_sum, crate::specs::Sum::is_negative))]
 fn year_sum(year: i32) -> u64
     ensures { result ≡ year_sum year }
 {
-    plus_of(wide_word(iso::magnitude(year)), one_if(is_negative(year)))
+    plus_of(year.unsigned_abs().into(), (year < 0).into())
 }
 
-fn day_sum(d: Date) -> u64
-    ensures { result ≡ day_sum d }
-{
-    let md = plus_of(wide(d.month), wide(d.day));
-    plus_of(year_sum(d.year), md)
-}
+impl Summed for Date {
+    ghost sum_of = { day_sum };
 
-fn date_sum(p: DatePart) -> u64
-    ensures { result ≡ date_sum p }
-{
-    match p {
-        DatePart::Absent => 0,
-        DatePart::Is(d) => plus_of(1, day_sum(d)),
+    #[tactic(auto, unfolding(crate::specs::Sum::day_sum))]
+    fn sum(self) -> u64 {
+        let md = plus_of(self.month.into(), self.day.into());
+        plus_of(year_sum(self.year), md)
     }
 }
 
-fn time_sum(p: ClockPart) -> u64
-    ensures { result ≡ time_sum p }
-{
-    match p {
-        ClockPart::Absent => 0,
-        ClockPart::Is(c) => plus_of(1, clock_sum(c)),
+impl Summed for SignedClock {
+    ghost sum_of = { signed_sum };
+
+    #[tactic(auto, unfolding(crate::specs::Sum::signed_sum))]
+    fn sum(self) -> u64 {
+        plus_of(self.negative.into(), self.clock.sum())
     }
 }
 
-fn signed_sum(o: SignedClock) -> u64
-    ensures { result ≡ signed_sum o }
-{
-    let clock = o.clock;
-    plus_of(one_if(o.negative), clock_sum(clock))
-}
+impl Summed for MarkedName {
+    ghost sum_of = { marked_sum };
 
-fn offset_sum(p: ShownOffset) -> u64
-    ensures { result ≡ offset_sum p }
-{
-    match p {
-        ShownOffset::Absent => 0,
-        ShownOffset::Z => 1,
-        ShownOffset::Is(o) => plus_of(2, signed_sum(o)),
+    #[tactic(auto, unfolding(crate::specs::Sum::marked_sum))]
+    fn sum(self) -> u64 {
+        let place = plus_of(self.name.at as u64, self.name.len as u64);
+        plus_of(place, self.critical.into())
     }
 }
 
-fn marked_sum(m: MarkedName) -> u64
-    ensures { result ≡ marked_sum m }
+// Of a part that is there, 1 more than its own sum.
+fn part_sum<T: Summed>(part: Option<T>) -> u64
+    ensures { result ≡ part_sum T.sum_of part }
 {
-    let place = plus_of(wide_size(m.name.at), wide_size(m.name.len));
-    plus_of(place, one_if(m.critical))
-}
-
-fn name_sum(p: NamePart) -> u64
-    ensures { result ≡ name_sum p }
-{
-    match p {
-        NamePart::Absent => 0,
-        NamePart::Is(m) => plus_of(1, marked_sum(m)),
+    match part {
+        None => 0,
+        Some(part) => plus_of(1, part.sum()),
     }
 }
 
-fn shown_sum(s: Shown) -> u64
-    ensures { result ≡ shown_sum s }
+fn offset_sum(offset: Option<ShownOffset>) -> u64
+    ensures { result ≡ offset_sum offset }
 {
-    let date = s.date;
-    let time = s.time;
-    let offset = s.offset;
-    let zone = s.zone;
-    let calendar = s.calendar;
-    let dated = plus_of(date_sum(date), time_sum(time));
-    let named = plus_of(name_sum(zone), name_sum(calendar));
-    plus_of(dated, plus_of(offset_sum(offset), named))
+    match offset {
+        None => 0,
+        Some(ShownOffset::Z) => 1,
+        Some(ShownOffset::At(offset)) => plus_of(2, offset.sum()),
+    }
+}
+
+impl Summed for Shown {
+    ghost sum_of = { shown_sum };
+
+    #[tactic(auto, unfolding(crate::specs::Sum::shown_sum))]
+    fn sum(self) -> u64 {
+        let dated = plus_of(part_sum(self.date), part_sum(self.time));
+        let named = plus_of(part_sum(self.zone), part_sum(self.calendar));
+        plus_of(dated, plus_of(offset_sum(self.offset), named))
+    }
 }
 
 // A refusal's number as it is; 1,000 more for what was accepted.
@@ -134,32 +106,23 @@ pub fn reading_sum(r: Reading) -> u64
     ensures { result ≡ reading_sum r }
 {
     match r {
-        Reading::Accepted(s) => plus_of(1000, shown_sum(s)),
-        Reading::Refused(k) => wide(k),
-    }
-}
-
-fn sign_number(s: Sign) -> u64 {
-    match s {
-        Sign::Negative => 0,
-        Sign::Zero => 1,
-        Sign::Positive => 2,
+        Ok(shown) => plus_of(1000, shown.sum()),
+        Err(k) => u8::from(k).into(),
     }
 }
 
 fn duration_shown_sum(s: DurationShown) -> u64 {
-    let sign = s.sign;
-    let ym = plus_of(wide_word(s.years), wide_word(s.months));
-    let wd = plus_of(wide_word(s.weeks), s.days);
+    let ym = plus_of(s.years.into(), s.months.into());
+    let wd = plus_of(s.weeks.into(), s.days);
     let hm = plus_of(s.hours, s.minutes);
-    let sn = plus_of(s.seconds, wide_word(s.nanoseconds));
-    plus_of(sign_number(sign), plus_of(plus_of(ym, wd), plus_of(hm, sn)))
+    let sn = plus_of(s.seconds, s.nanoseconds.into());
+    plus_of(s.sign as u64, plus_of(plus_of(ym, wd), plus_of(hm, sn)))
 }
 
 // The same of a duration.
 pub fn duration_sum(r: DurationReading) -> u64 {
     match r {
-        DurationReading::Accepted(s) => plus_of(1000, duration_shown_sum(s)),
-        DurationReading::Refused(k) => wide(k),
+        Ok(shown) => plus_of(1000, duration_shown_sum(shown)),
+        Err(k) => u8::from(k).into(),
     }
 }

@@ -1,6 +1,6 @@
 -- The grammar of dates, production by production as document 01 has them: the trees, their texts, and which are of the grammar.
 -- Assumes nothing: these are definitions.
-use Rattle.std.specs.Prelude.{ℕ, ◌≤◌, ◌<◌, Bool, true, false, cond, ◌≡◌, List, [], ◌∷◌, ◌++◌}
+use Rattle.std.specs.Prelude.{ℕ, ◌≤◌, ◌<◌, Bool, true, false, cond, ◌≡◌, Option, Some, List, [], ◌∷◌, ◌++◌}
 use Rattle.text.specs.Digits.{decimal}
 use Rattle.date_syntax.specs.declared.DateRead.{DateRead}
 use Rattle.date_syntax.specs.declared.MonthDayRead.{MonthDayRead}
@@ -48,8 +48,8 @@ pub record DateOk (t : DateTree) : Type 0 where
   pub month : Month t.month
   pub day : Day t.day
 
-abbrev pub date_kept : DateTree → DateRead
-date_kept t = DateRead.Is t.year.negative t.year.year t.year.wide t.month t.day
+abbrev pub date_kept : DateTree → Option DateRead
+date_kept t = Some (record { negative = t.year.negative; year = t.year.year; wide = t.year.wide; month = t.month; day = t.day })
 
 -- ---- `YYYY-MM`, which has day 1
 pub record YearMonthTree : Type 0 where
@@ -63,8 +63,8 @@ pub record YearMonthOk (t : YearMonthTree) : Type 0 where
   pub year : YearOk t.year
   pub month : Month t.month
 
-abbrev pub year_month_kept : YearMonthTree → DateRead
-year_month_kept t = DateRead.Is t.year.negative t.year.year t.year.wide t.month 1
+abbrev pub year_month_kept : YearMonthTree → Option DateRead
+year_month_kept t = Some (record { negative = t.year.negative; year = t.year.year; wide = t.year.wide; month = t.month; day = 1 })
 
 -- ---- `MM-DD` or `--MM-DD`
 pub record MonthDayTree : Type 0 where
@@ -83,8 +83,8 @@ pub record MonthDayOk (t : MonthDayTree) : Type 0 where
   pub month : Month t.month
   pub day : Day t.day
 
-abbrev pub month_day_kept : MonthDayTree → MonthDayRead
-month_day_kept t = MonthDayRead.Is t.dashes t.month t.day
+abbrev pub month_day_kept : MonthDayTree → Option MonthDayRead
+month_day_kept t = Some (record { dashes = t.dashes; month = t.month; day = t.day })
 
 -- anything may follow: the fields have fixed widths
 abbrev pub Anything : List ℕ → Type 0

@@ -1,23 +1,19 @@
 -- The text of a date, by the year's sign and magnitude; its length; and what the test of a date tells. Assumes nothing.
 --     text_negative, text_four, text_six    the three forms of a year
---     minus_six, plain_four, plus_six       the same as the code has it
---     length-date                           a date's length by its year's
+--     years                                 the set of these, for what writes or counts a year
 --     year_most, date_most                  the longest year and date
 --     date_in                               month and day of a date that passes its test have two digits
 use mathlib.Core.Path.{◌≡◌, refl}
 use mathlib.Core.Bool.{Bool, true, false, cond}
 use mathlib.Core.List.{◌∷◌}
-use Prim.Native.Nat.{ℕ, ◌+◌, ◌<◌, ◌≤◌}
+use Prim.Native.Nat.{◌<◌, ◌≤◌}
 use native.Mathlib.Omega.{arith}
 use borrow.Author.Tests.{lt-ltb, le-ltb, ltb-true}
 use lib.Dec.{ltb, leb}
 use lib.IntN.{ℤ, pos, negsuc, nat_abs}
 use lib.ListN.{length, length-append}
 use lib.Signed.{lt_z}
-use mir.Syntax.{w32}
-use mir.Val.{to_z, of_z, SFits}
 use mir.Facts.{to_z-of_z}
-use Rattle.iso.proofs.Signs.{below_zero}
 use Rattle.text.specs.Digits.{decimal}
 use Rattle.text.proofs.Answers.{both}
 use Rattle.iso.specs.Gregorian.{valid_date}
@@ -40,23 +36,8 @@ unfolding year_text
 text_six (pos n) h large = rw (le-ltb n 10000 large)
 text_six (negsuc n) h large = cc
 
--- the same as the code has it: the year by its bits, and what `magnitude` gave
-module _ (z : ℤ) (n : ℕ) (f : SFits w32 z) (e : n ≡ nat_abs (to_z w32 (of_z w32 z))) where
-  is : n ≡ nat_abs z
-  is = rw (to_z-of_z f) at e
-
-  pub minus_six : lt_z (to_z w32 (of_z w32 z)) (pos 0) ≡ true → year_text z ≡ 45 ∷ decimal 6 n
-  minus_six h = rw is (text_negative z (below_zero f h))
-
-  pub plain_four : lt_z (to_z w32 (of_z w32 z)) (pos 0) ≡ false → n < 10000 → year_text z ≡ decimal 4 n
-  plain_four h small = rw is (text_four z (below_zero f h) (omega (arith, is)))
-
-  pub plus_six : lt_z (to_z w32 (of_z w32 z)) (pos 0) ≡ false → 10000 ≤ n → year_text z ≡ 43 ∷ decimal 6 n
-  plus_six h large = rw is (text_six z (below_zero f h) (omega (arith, is)))
-
-pub length-date : (d : Date) → length (date_text d) ≡ length (year_text d.year) + 6
-unfolding date_text
-length-date d = simp length-append (omega arith)
+-- a year by its bits is the year, and its text has one of three forms
+pub ruleset years = (to_z-of_z, text_negative, text_four, text_six)
 
 pub year_most : (z : ℤ) → length (year_text z) ≤ 7
 unfolding year_text
@@ -68,7 +49,8 @@ year_most (pos n) = go (ltb n 10000)
 year_most (negsuc n) = omega arith
 
 pub date_most : (d : Date) → length (date_text d) ≤ 13
-date_most d = omega (arith, length-date d, year_most d.year)
+unfolding date_text
+date_most d = simp length-append (omega (arith, year_most d.year))
 
 pub date_in : (d : Date) → date_ok d ≡ true → (d.month < 100) × (d.day < 100)
 unfolding date_ok

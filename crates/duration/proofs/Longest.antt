@@ -4,24 +4,23 @@ use mathlib.Core.Bool.{Bool, true, false, cond}
 use mathlib.Core.List.{[]}
 use Prim.Native.Nat.{◌^◌, ◌<◌, ◌≤◌}
 use native.Mathlib.Omega.{arith}
-use lib.ListN.{length}
+use lib.ListN.{length, length-append}
+use Rattle.std.specs.Prelude.{Some, Ok}
 use Rattle.text.specs.Digits.{last_nonzero, fraction, width_by, width, number}
 use Rattle.text.specs.Answer.{length_of}
-use Rattle.text.specs.declared.LengthAnswer.TheVariants.{Length}
-use Rattle.text.proofs.NumberLaws.{length-number, width_le}
-use Rattle.text.proofs.PutLaws.{mark_most}
+use Rattle.text.proofs.NumberLaws.{length_number, width_le}
+use Rattle.text.proofs.OutLaws.{mark_most}
 use Rattle.record.specs.declared.stamp.Precision.{Precision}
 use Rattle.record.specs.declared.stamp.Precision.TheVariants.{Auto}
 use Rattle.record.specs.declared.stamp.Sign.TheVariants.{Negative}
-use Rattle.record.specs.declared.duration.DateDurationPart.TheVariants.{Is}
 use Rattle.record.specs.declared.duration.TimeDuration.TheVariants.{Seconds}
 use Rattle.record.specs.declared.duration.DateDuration.{DateDuration}
 use Rattle.record.specs.declared.duration.Duration.{Duration}
-use Rattle.precision.specs.Precision.{precision_ok, sub_second}
+use Rattle.precision.specs.Precision.{sub_second}
 use Rattle.precision.proofs.SubSecond.{sub_second_most}
 use Rattle.duration.specs.declared.held.TimeNumbers.{TimeNumbers}
 use Rattle.duration.specs.Duration.{date_numbers, time_numbers, negative, unit, date_units, seconds_shown, seconds_text, time_units, time_shown, designated, parts_text, duration_text, duration_ok, duration_parts_ok, duration_judged}
-use Rattle.duration.proofs.DurationLaws.{unit_most, length-date, length-seconds, length-time, length_parts, length-duration, precision_in}
+use Rattle.duration.proofs.DurationLaws.{unit_most, time_as}
 
 -- numbers that their types hold
 pub record DateFits (n : DateDuration) : Type 0 where
@@ -36,53 +35,52 @@ pub record TimeFits (n : TimeNumbers) : Type 0 where
   pub seconds : n.seconds < 2 ^ 64
 
 pub date_most : (n : DateDuration) → DateFits n → length (date_units n) ≤ 54
+unfolding date_units
 date_most n f =
-    omega (
+    simp length-append (omega (
       arith,
-      length-date n,
       unit_most 9 n.years 89 (omega arith),
       unit_most 9 n.months 77 (omega arith),
       unit_most 9 n.weeks 87 (omega arith),
       unit_most 19 n.days 68 (omega arith),
-    )
+    ))
 
-module _ (p : Precision) (n : TimeNumbers) (f : TimeFits n) (h : precision_ok p ≡ true) where
+module _ (p : Precision) (n : TimeNumbers) (f : TimeFits n) where
   seconds_most : (shown : Bool) → length (cond shown (seconds_text p n) []) ≤ 31
+  unfolding seconds_text
   seconds_most true =
-      omega (arith, length-seconds p n refl, length-number n.seconds, width_le 19 n.seconds (omega arith), sub_second_most p n.fraction h)
+      simp length-append (omega (arith, length_number n.seconds, width_le 19 n.seconds (omega arith), sub_second_most p n.fraction))
   seconds_most false = omega arith
 
   time_most : (shown : Bool) → length (designated (time_units p shown n)) ≤ 74
   time_most shown =
-      omega (
+      rw (time_as p shown n) (simp length-append (omega (
         arith,
-        length-time p shown n refl,
         mark_most (time_shown shown n) 84,
         unit_most 19 n.hours 72 (omega arith),
         unit_most 19 n.minutes 77 (omega arith),
         seconds_most shown,
-      )
+      )))
 
-pub longest : (d : Duration) → DateFits (date_numbers d.date) → TimeFits (time_numbers d.time) → duration_ok d ≡ true → length (duration_text d) ≤ 130
-longest d fd ft h =
-    omega (
+pub longest : (d : Duration) → DateFits (date_numbers d.date) → TimeFits (time_numbers d.time) → length (duration_text d) ≤ 130
+unfolding duration_text parts_text
+longest d fd ft =
+    simp length-append (omega (
       arith,
-      length-duration d refl,
       mark_most (negative d.sign) 45,
-      length_parts d refl refl refl,
       date_most _ fd,
-      time_most d.precision (time_numbers d.time) ft (precision_in d h) (seconds_shown d),
-    )
+      time_most d.precision (time_numbers d.time) ft (seconds_shown d),
+    ))
 
 abbrev pub largest : Duration
 largest =
     record {
       precision = Auto;
       sign = Negative;
-      date = Is (record { years = 4294967295; months = 4294967295; weeks = 4294967295; days = 18446744073709551615 });
-      time = Seconds 18446744073709551615 18446744073709551615 18446744073709551615 999999999;
+      date = Some (record { years = 4294967295; months = 4294967295; weeks = 4294967295; days = 18446744073709551615 });
+      time = Some (Seconds 18446744073709551615 18446744073709551615 18446744073709551615 999999999);
     }
 
-pub longest_has : length_of (duration_judged largest) ≡ Length 130
+pub longest_has : length_of (duration_judged largest) ≡ Ok 130
 unfolding duration_judged duration_ok duration_parts_ok duration_text parts_text date_units time_units seconds_shown seconds_text unit sub_second fraction last_nonzero number width width_by
 longest_has = refl

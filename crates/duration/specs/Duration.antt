@@ -1,5 +1,5 @@
 -- The text of a duration, and which durations have one. Assumes nothing: these are definitions.
-use Rattle.std.specs.Prelude.{Bool, true, false, cond, not, ◌&&◌, ◌||◌, List, [], ◌∷◌, ◌++◌, ℕ, zero, suc, eqb, leb}
+use Rattle.std.specs.Prelude.{Bool, true, false, cond, not, ◌&&◌, ◌||◌, List, [], ◌∷◌, ◌++◌, ℕ, zero, suc, eqb, leb, Option, Some, None, is_none}
 use Rattle.text.specs.Digits.{number}
 use Rattle.text.specs.Put.{mark}
 use Rattle.text.specs.Answer.{Judged, judge}
@@ -8,8 +8,6 @@ use Rattle.record.specs.declared.stamp.Precision.TheVariants.{Auto, Minute, Digi
 use Rattle.record.specs.declared.stamp.Sign.{Sign}
 use Rattle.record.specs.declared.stamp.Sign.TheVariants.{Negative, Zero, Positive}
 use Rattle.record.specs.declared.duration.DateDuration.{DateDuration}
-use Rattle.record.specs.declared.duration.DateDurationPart.{DateDurationPart}
-use Rattle.record.specs.declared.duration.DateDurationPart.TheVariants as date
 use Rattle.record.specs.declared.duration.TimeDuration.{TimeDuration}
 use Rattle.record.specs.declared.duration.TimeDuration.TheVariants as time
 use Rattle.record.specs.declared.duration.Duration.{Duration}
@@ -18,25 +16,21 @@ use Rattle.duration.specs.declared.held.TimeNumbers.{TimeNumbers}
 
 -- ---- what a duration holds: its numbers, where an absent part counts as 0, and its settings
 
-abbrev pub date_numbers : DateDurationPart → DateDuration
-date_numbers date.Absent = record { years = 0; months = 0; weeks = 0; days = 0 }
-date_numbers (date.Is d) = d
+abbrev pub date_numbers : Option DateDuration → DateDuration
+date_numbers None = record { years = 0; months = 0; weeks = 0; days = 0 }
+date_numbers (Some d) = d
 
-abbrev pub time_numbers : TimeDuration → TimeNumbers
-time_numbers time.Absent = record { hours = 0; minutes = 0; seconds = 0; fraction = 0 }
-time_numbers (time.Hours h f) = record { hours = h; minutes = 0; seconds = 0; fraction = f }
-time_numbers (time.Minutes h m f) = record { hours = h; minutes = m; seconds = 0; fraction = f }
-time_numbers (time.Seconds h m s f) = record { hours = h; minutes = m; seconds = s; fraction = f }
+abbrev pub time_numbers : Option TimeDuration → TimeNumbers
+time_numbers None = record { hours = 0; minutes = 0; seconds = 0; fraction = 0 }
+time_numbers (Some (time.Hours h f)) = record { hours = h; minutes = 0; seconds = 0; fraction = f }
+time_numbers (Some (time.Minutes h m f)) = record { hours = h; minutes = m; seconds = 0; fraction = f }
+time_numbers (Some (time.Seconds h m s f)) = record { hours = h; minutes = m; seconds = s; fraction = f }
 
-abbrev pub no_date : DateDurationPart → Bool
-no_date date.Absent = true
-no_date (date.Is d) = false
-
-abbrev pub in_seconds : TimeDuration → Bool
-in_seconds time.Absent = false
-in_seconds (time.Hours h f) = false
-in_seconds (time.Minutes h m f) = false
-in_seconds (time.Seconds h m s f) = true
+abbrev pub in_seconds : Option TimeDuration → Bool
+in_seconds None = false
+in_seconds (Some (time.Hours h f)) = false
+in_seconds (Some (time.Minutes h m f)) = false
+in_seconds (Some (time.Seconds h m s f)) = true
 
 abbrev pub negative : Sign → Bool
 negative Negative = true
@@ -72,7 +66,7 @@ unfoldable pub seconds_shown : Duration → Bool
 seconds_shown d =
     let n = time_numbers d.time in
     in_seconds d.time
-    && (nonzero n.seconds || nonzero n.fraction || (no_date d.date && eqb n.hours 0 && eqb n.minutes 0) || digit d.precision)
+    && (nonzero n.seconds || nonzero n.fraction || (is_none d.date && eqb n.hours 0 && eqb n.minutes 0) || digit d.precision)
 
 -- the seconds with their fraction, S
 unfoldable pub seconds_text : Precision → TimeNumbers → List ℕ

@@ -1,8 +1,8 @@
 // What a duration holds: its numbers, where an absent part counts as 0, its settings, and the tests that it has to pass.
-ghost use Rattle.std.specs.Prelude.{◌≡◌};
-ghost use Rattle.duration.specs.Duration.{date_numbers, time_numbers, no_date, in_seconds, negative, minute, digit, any_date, any_time, time_shown, seconds_shown, duration_ok, duration_parts_ok};
+ghost use Rattle.std.specs.Prelude.{true, ◌≡◌};
+ghost use Rattle.duration.specs.Duration.{date_numbers, time_numbers, in_seconds, negative, minute, digit, any_date, any_time, time_shown, seconds_shown, duration_ok, duration_parts_ok};
 
-use record::{DateDuration, DateDurationPart, Duration, Precision, Sign, TimeDuration};
+use record::{DateDuration, Duration, Precision, Sign, TimeDuration};
 
 // The numbers of a time, whatever its largest unit; the fraction is in nanoseconds.
 #[derive(Clone, Copy)]
@@ -13,52 +13,56 @@ pub struct TimeNumbers {
     pub fraction: u32,
 }
 
-pub fn date_numbers(date: DateDurationPart) -> DateDuration
+const NO_DATE: DateDuration = DateDuration {
+    years: 0,
+    months: 0,
+    weeks: 0,
+    days: 0,
+};
+
+const NO_TIME: TimeNumbers = TimeNumbers {
+    hours: 0,
+    minutes: 0,
+    seconds: 0,
+    fraction: 0,
+};
+
+pub fn date_numbers(date: Option<DateDuration>) -> DateDuration
     ensures { result ≡ date_numbers date }
 {
-    match date {
-        DateDurationPart::Absent => DateDuration {
-            years: 0,
-            months: 0,
-            weeks: 0,
-            days: 0,
-        },
-        DateDurationPart::Is(n) => n,
-    }
+    date.unwrap_or(NO_DATE)
 }
 
-pub fn time_numbers(time: TimeDuration) -> TimeNumbers
+pub fn time_numbers(time: Option<TimeDuration>) -> TimeNumbers
     ensures { result ≡ time_numbers time }
 {
     match time {
-        TimeDuration::Absent => TimeNumbers {
-            hours: 0,
-            minutes: 0,
-            seconds: 0,
-            fraction: 0,
-        },
-        TimeDuration::Hours { hours, fraction } => TimeNumbers {
+        None => NO_TIME,
+        Some(TimeDuration::Hours { hours, fraction }) => TimeNumbers {
             hours,
-            minutes: 0,
-            seconds: 0,
             fraction,
+            ..NO_TIME
         },
-        TimeDuration::Minutes {
+        Some(
+            TimeDuration::Minutes {
+                hours,
+                minutes,
+                fraction,
+            },
+        ) => TimeNumbers {
             hours,
             minutes,
             fraction,
-        } => TimeNumbers {
-            hours,
-            minutes,
-            seconds: 0,
-            fraction,
+            ..NO_TIME
         },
-        TimeDuration::Seconds {
-            hours,
-            minutes,
-            seconds,
-            fraction,
-        } => TimeNumbers {
+        Some(
+            TimeDuration::Seconds {
+                hours,
+                minutes,
+                seconds,
+                fraction,
+            },
+        ) => TimeNumbers {
             hours,
             minutes,
             seconds,
@@ -67,54 +71,28 @@ pub fn time_numbers(time: TimeDuration) -> TimeNumbers
     }
 }
 
-fn no_date(date: DateDurationPart) -> bool
-    ensures { result ≡ no_date date }
-{
-    match date {
-        DateDurationPart::Absent => true,
-        DateDurationPart::Is(_) => false,
-    }
-}
-
-fn in_seconds(time: TimeDuration) -> bool
+fn in_seconds(time: Option<TimeDuration>) -> bool
     ensures { result ≡ in_seconds time }
 {
-    match time {
-        TimeDuration::Absent => false,
-        TimeDuration::Hours { .. } => false,
-        TimeDuration::Minutes { .. } => false,
-        TimeDuration::Seconds { .. } => true,
-    }
+    matches!(time, Some(TimeDuration::Seconds { .. }))
 }
 
 pub fn negative(sign: Sign) -> bool
     ensures { result ≡ negative sign }
 {
-    match sign {
-        Sign::Negative => true,
-        Sign::Zero => false,
-        Sign::Positive => false,
-    }
+    sign == Sign::Negative
 }
 
 fn minute(p: Precision) -> bool
     ensures { result ≡ minute p }
 {
-    match p {
-        Precision::Auto => false,
-        Precision::Minute => true,
-        Precision::Digit(_) => false,
-    }
+    p == Precision::Minute
 }
 
 fn digit(p: Precision) -> bool
     ensures { result ≡ digit p }
 {
-    match p {
-        Precision::Auto => false,
-        Precision::Minute => false,
-        Precision::Digit(_) => true,
-    }
+    matches!(p, Precision::Digit(_))
 }
 
 fn any_date(n: DateDuration) -> bool
@@ -130,15 +108,13 @@ fn any_time(n: TimeNumbers) -> bool
 }
 
 // The seconds are written.
-pub fn seconds_shown(d: Duration) -> bool
+#[tactic(auto, using(crate::proofs::DurationLaws::absent), unfolding(crate::specs::Duration::seconds_shown))]
+fn seconds_shown(d: Duration) -> bool
     ensures { result ≡ seconds_shown d }
 {
-    let date = d.date;
-    let time = d.time;
-    let p = d.precision;
-    let n = time_numbers(time);
-    let alone = no_date(date) & (n.hours == 0) & (n.minutes == 0);
-    in_seconds(time) & ((n.seconds != 0) | (n.fraction != 0) | alone | digit(p))
+    let n = time_numbers(d.time);
+    let alone = d.date.is_none() & (n.hours == 0) & (n.minutes == 0);
+    in_seconds(d.time) & ((n.seconds != 0) | (n.fraction != 0) | alone | digit(d.precision))
 }
 
 // A unit of the time is written, given whether the seconds are.
@@ -148,28 +124,45 @@ pub fn time_shown(shown: bool, n: TimeNumbers) -> bool
     (n.hours != 0) | (n.minutes != 0) | shown
 }
 
+// The time of a duration as its text shows it: its numbers, whether the seconds are written, and their precision.
+#[derive(Clone, Copy)]
+pub struct ShownTime {
+    pub numbers: TimeNumbers,
+    pub seconds: bool,
+    pub precision: Precision,
+}
+
+pub fn shown_time(d: Duration) -> ShownTime
+    ensures numbers { result.numbers ≡ time_numbers d.time }
+    ensures seconds { result.seconds ≡ seconds_shown d }
+    ensures precision { result.precision ≡ d.precision }
+{
+    ShownTime {
+        numbers: time_numbers(d.time),
+        seconds: seconds_shown(d),
+        precision: d.precision,
+    }
+}
+
 // Each field is in its range.
+#[tactic(auto, unfolding(crate::specs::Duration::duration_ok))]
 pub fn duration_ok(d: Duration) -> bool
     ensures { result ≡ duration_ok d }
 {
-    let time = d.time;
-    let p = d.precision;
-    let n = time_numbers(time);
-    (n.fraction <= 999_999_999) & precision::precision_ok(p) & !(minute(p) & in_seconds(time))
+    let n = time_numbers(d.time);
+    (n.fraction <= 999_999_999)
+        & precision::precision_ok(d.precision)
+        & !(minute(d.precision) & in_seconds(d.time))
 }
 
 // The parts go together, and there is one to write.
+#[tactic(auto, using(crate::proofs::DurationLaws::some_parts), unfolding(crate::specs::Duration::duration_parts_ok))]
 pub fn duration_parts_ok(d: Duration) -> bool
     ensures { result ≡ duration_parts_ok d }
 {
-    let sign = d.sign;
-    let date = d.date;
-    let time = d.time;
-    let n = date_numbers(date);
-    let t = time_numbers(time);
-    let shown = seconds_shown(d);
-    let any = any_date(n);
-    (any | time_shown(shown, t))
-        & (!negative(sign) | any | any_time(t))
-        & (in_seconds(time) | (t.fraction == 0))
+    let t = time_numbers(d.time);
+    let any = any_date(date_numbers(d.date));
+    (any | time_shown(seconds_shown(d), t))
+        & (!negative(d.sign) | any | any_time(t))
+        & (in_seconds(d.time) | (t.fraction == 0))
 }

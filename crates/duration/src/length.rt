@@ -1,20 +1,21 @@
 // How many bytes a duration's text has.
-ghost use Rattle.std.specs.Prelude.{true, cond, [], ◌≡◌, ℕ, ◌≤◌, length};
+ghost use Rattle.std.specs.Prelude.{cond, [], ◌≡◌, ℕ, ◌≤◌, length};
 ghost use Rattle.text.specs.Put.{Count};
-ghost use Rattle.precision.specs.Precision.{precision_ok};
-ghost use Rattle.duration.specs.Duration.{unit, date_units, seconds_text, time_units, designated, parts_text, duration_text};
+ghost use Rattle.duration.specs.Duration.{unit, date_units, seconds_text, time_units, designated, duration_text};
 
-use crate::held::TimeNumbers;
-use record::{DateDuration, Duration, Precision};
+use crate::held::ShownTime;
+use record::{DateDuration, Duration};
 
 // A unit, whatever its letter.
+#[tactic(auto, using(text::proofs::OutLaws::stepwise, crate::proofs::DurationLaws::unit_some, crate::proofs::DurationLaws::unit_none))]
 fn unit_bytes(n: u64) -> usize
     ensures { (result ≤ 21) × ((letter : ℕ) → result ≡ length (unit n letter)) }
 {
     if n == 0 {
-        return 0;
+        0
+    } else {
+        text::put::number_bytes(n) + 1
     }
-    text::put::number_bytes(n) + 1
 }
 
 fn date_bytes(n: DateDuration) -> usize
@@ -26,45 +27,37 @@ fn date_bytes(n: DateDuration) -> usize
         + unit_bytes(n.days)
 }
 
-fn seconds_bytes(p: Precision, shown: bool, n: TimeNumbers) -> usize
-    requires { precision_ok p ≡ true }
-    ensures { Count (cond shown (seconds_text p n) []) 31 result }
+#[tactic(auto, using(text::proofs::OutLaws::stepwise), unfolding(crate::specs::Duration::seconds_text))]
+fn seconds_bytes(t: ShownTime) -> usize
+    ensures { Count (cond t.seconds (seconds_text t.precision t.numbers) []) 31 result }
 {
-    if shown {
-        return text::put::number_bytes(n.seconds) + precision::sub_second_bytes(p, n.fraction) + 1;
+    if t.seconds {
+        text::put::number_bytes(t.numbers.seconds)
+            + precision::sub_second_bytes(t.precision, t.numbers.fraction)
+            + 1
+    } else {
+        0
     }
-    0
 }
 
-fn time_bytes(p: Precision, shown: bool, n: TimeNumbers) -> usize
-    requires { precision_ok p ≡ true }
-    ensures { Count (designated (time_units p shown n)) 74 result }
+#[tactic(auto, using(text::proofs::OutLaws::stepwise, crate::proofs::DurationLaws::time_as))]
+fn time_bytes(t: ShownTime) -> usize
+    ensures { Count (designated (time_units t.precision t.seconds t.numbers)) 74 result }
 {
-    let any = crate::held::time_shown(shown, n);
+    let any = crate::held::time_shown(t.seconds, t.numbers);
     text::put::mark_bytes(any, b'T')
-        + unit_bytes(n.hours)
-        + unit_bytes(n.minutes)
-        + seconds_bytes(p, shown, n)
-}
-
-fn parts_bytes(d: Duration) -> usize
-    requires { precision_ok d.precision ≡ true }
-    ensures { Count (parts_text d) 128 result }
-{
-    let p = d.precision;
-    let date = d.date;
-    let time = d.time;
-    let shown = crate::held::seconds_shown(d);
-    date_bytes(crate::held::date_numbers(date))
-        + time_bytes(p, shown, crate::held::time_numbers(time))
+        + unit_bytes(t.numbers.hours)
+        + unit_bytes(t.numbers.minutes)
+        + seconds_bytes(t)
 }
 
 // 130 is the longest.
+#[tactic(auto, using(text::proofs::OutLaws::stepwise), unfolding(crate::specs::Duration::duration_text, crate::specs::Duration::parts_text))]
 pub fn duration_bytes(d: Duration) -> usize
-    requires { precision_ok d.precision ≡ true }
     ensures { Count (duration_text d) 130 result }
 {
-    let sign = d.sign;
-    let minus = crate::held::negative(sign);
-    text::put::mark_bytes(minus, b'-') + 1 + parts_bytes(d)
+    let minus = crate::held::negative(d.sign);
+    let date = crate::held::date_numbers(d.date);
+    let time = crate::held::shown_time(d);
+    text::put::mark_bytes(minus, b'-') + 1 + date_bytes(date) + time_bytes(time)
 }

@@ -6,34 +6,33 @@ ghost use Rattle.text.specs.Answer.{length_of, Wrote};
 ghost use Rattle.duration.specs.Duration.{duration_judged};
 
 use record::Duration;
-use text::{LengthAnswer, WriteAnswer};
+use text::Refusal;
+use text::out::Out;
 
 pub mod held;
 mod length;
 mod put;
 
 // The exact length of a duration's text; refusals 2, then 4.
-pub fn duration_length(d: Duration) -> LengthAnswer
+#[tactic(auto, unfolding(crate::specs::Duration::duration_judged))]
+pub fn duration_length(d: Duration) -> Result<usize, Refusal>
     ensures { result ≡ length_of (duration_judged d) }
 {
-    if held::duration_ok(d) {
-        if held::duration_parts_ok(d) {
-            return LengthAnswer::Length(length::duration_bytes(d));
-        }
-        return LengthAnswer::Refused(text::refusal::BAD_PARTS);
+    if !held::duration_ok(d) {
+        Err(Refusal::BadField)
+    } else if !held::duration_parts_ok(d) {
+        Err(Refusal::BadParts)
+    } else {
+        Ok(length::duration_bytes(d))
     }
-    LengthAnswer::Refused(text::refusal::BAD_FIELD)
 }
 
 // Writes a duration's text to the front of a buffer; refusals 2, then 4, then 1.
-pub fn write_duration(buf: &mut [u8], d: Duration) -> WriteAnswer
+#[tactic(auto, using(text::proofs::OutLaws::at_front), unfolding(crate::specs::Duration::duration_judged))]
+pub fn write_duration(buf: &mut [u8], d: Duration) -> Result<usize, Refusal>
     ensures { Wrote (duration_judged d) buf.old buf.new result }
 {
-    match text::fit(duration_length(d), buf.len()) {
-        WriteAnswer::Refused(k) => WriteAnswer::Refused(k),
-        WriteAnswer::Written(n) => {
-            put::put_duration(buf, 0, d);
-            WriteAnswer::Written(n)
-        }
-    }
+    let n = text::fit(duration_length(d), buf.len())?;
+    put::put_duration(&mut Out { buf, at: 0 }, d);
+    Ok(n)
 }

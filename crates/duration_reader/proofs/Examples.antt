@@ -2,14 +2,15 @@
 use Prim.Native.Nat.{ℕ}
 use Prim.Native.String.{String}
 use mathlib.Core.Path.{◌≡◌, refl}
+use Rattle.std.specs.Prelude.{Ok, Err}
+use Rattle.text.specs.declared.refusal.Refusal.TheVariants.{BadText, LongFraction, TooLarge}
 use Rattle.text.proofs.Quoted.{bytes}
 use Rattle.text.specs.Digits.{value_from}
 use Rattle.record.specs.declared.stamp.Sign.{Sign}
 use Rattle.record.specs.declared.stamp.Sign.TheVariants.{Negative, Zero, Positive}
 use Rattle.time_syntax.specs.Read.{fraction_of, fraction_at}
-use Rattle.duration_reader.specs.declared.meaning.DurationReading.{DurationReading}
-use Rattle.duration_syntax.specs.Read.{number_at, capital, part_fits, part_of, part_at, date_at, after_date, time_parts_at, time_at, after_time, sign_at, after_sign, duration_fits, duration_of, duration_from, duration}
-use Rattle.duration_reader.specs.Meaning.{shown_of, answer, read_duration}
+use Rattle.duration_syntax.specs.Read.{number_at, part_fits, part_of, part_at, date_at, after_date, time_parts_at, time_at, sign_at, duration_fits, duration_of, duration_from, duration}
+use Rattle.duration_reader.specs.Meaning.{DurationReading, shown_of, numbers, answer, read_duration}
 
 -- a quoted text as its bytes, and the answer to it
 read : String → DurationReading
@@ -18,10 +19,7 @@ read s = read_duration (bytes s)
 -- a sign, years, months, weeks, days, hours, minutes, seconds, nanoseconds
 is : Sign → ℕ → ℕ → ℕ → ℕ → ℕ → ℕ → ℕ → ℕ → DurationReading
 is sign y o w d h m s n =
-    DurationReading.Accepted (record { sign = sign; years = y; months = o; weeks = w; days = d; hours = h; minutes = m; seconds = s; nanoseconds = n })
-
-refusal : ℕ → DurationReading
-refusal k = DurationReading.Refused k
+    Ok (record { sign = sign; years = y; months = o; weeks = w; days = d; hours = h; minutes = m; seconds = s; nanoseconds = n })
 
 accepted :
     (read "P1Y2M3W4DT5H6M7.000000008S" ≡ is Positive 1 2 3 4 5 6 7 8)
@@ -37,22 +35,22 @@ accepted :
     × (read "PT1.5S" ≡ is Positive 0 0 0 0 0 0 1 500000000)
     × (read "PT1,5S" ≡ is Positive 0 0 0 0 0 0 1 500000000)
     × (read "-PT0.000000001S" ≡ is Negative 0 0 0 0 0 0 0 1)
-unfolding bytes read is value_from fraction_of fraction_at number_at capital part_fits part_of part_at date_at after_date time_parts_at time_at after_time sign_at after_sign duration_fits duration_of duration_from duration shown_of answer read_duration
+unfolding bytes read is value_from fraction_of fraction_at number_at part_fits part_of part_at date_at after_date time_parts_at time_at sign_at duration_fits duration_of duration_from duration shown_of numbers answer read_duration
 accepted = (refl, refl, refl, refl, refl, refl, refl, refl, refl, refl, refl, refl, refl)
 
 refused :
-    (read "P4294967296Y" ≡ refusal 14)
-    × (read "P18446744073709551616D" ≡ refusal 14)
-    × (read "PT1.1234567890S" ≡ refusal 8)
-    × (read "P4294967296YT1.1234567890S" ≡ refusal 8)
-    × (read "PT1.5H" ≡ refusal 6)
-    × (read "PT1.S" ≡ refusal 6)
-    × (read "P" ≡ refusal 6)
-    × (read "PT" ≡ refusal 6)
-    × (read "P1YT" ≡ refusal 6)
-    × (read "P1M1Y" ≡ refusal 6)
-    × (read "P1Y1Y" ≡ refusal 6)
-    × (read "P1Y " ≡ refusal 6)
-    × (read "" ≡ refusal 6)
-unfolding bytes read refusal value_from fraction_of fraction_at number_at capital part_fits part_of part_at date_at after_date time_parts_at time_at after_time sign_at after_sign duration_fits duration_of duration_from duration shown_of answer read_duration
+    (read "P4294967296Y" ≡ Err TooLarge)
+    × (read "P18446744073709551616D" ≡ Err TooLarge)
+    × (read "PT1.1234567890S" ≡ Err LongFraction)
+    × (read "P4294967296YT1.1234567890S" ≡ Err LongFraction)
+    × (read "PT1.5H" ≡ Err BadText)
+    × (read "PT1.S" ≡ Err BadText)
+    × (read "P" ≡ Err BadText)
+    × (read "PT" ≡ Err BadText)
+    × (read "P1YT" ≡ Err BadText)
+    × (read "P1M1Y" ≡ Err BadText)
+    × (read "P1Y1Y" ≡ Err BadText)
+    × (read "P1Y " ≡ Err BadText)
+    × (read "" ≡ Err BadText)
+unfolding bytes read value_from fraction_of fraction_at number_at part_fits part_of part_at date_at after_date time_parts_at time_at sign_at duration_fits duration_of duration_from duration shown_of numbers answer read_duration
 refused = (refl, refl, refl, refl, refl, refl, refl, refl, refl, refl, refl, refl, refl)

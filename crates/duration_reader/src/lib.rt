@@ -7,13 +7,16 @@ ghost use Rattle.duration_reader.specs.Meaning.{read_duration};
 pub mod meaning;
 
 pub use meaning::{DurationReading, DurationShown};
+use text::Refusal;
 
-// A text of up to 1,024 bytes as a duration, or the number of its refusal.
+// A text of up to 1,024 bytes as a duration, or why it is refused.
+#[tactic(auto, unfolding(crate::specs::Meaning::read_duration))]
 pub fn read_duration(t: &[u8]) -> DurationReading
     ensures { result ≡ read_duration t.now }
 {
     if text::refusal::LONGEST < t.len() {
-        return DurationReading::Refused(text::refusal::TOO_LONG);
+        return Err(Refusal::TooLong);
     }
-    meaning::answer_of(duration_syntax::raw::duration(t))
+    let raw = duration_syntax::raw::duration(t).ok_or(Refusal::BadText)?;
+    meaning::answer_raw(raw)
 }

@@ -9,6 +9,8 @@ use mathlib.Core.List.{List, [], ◌∷◌, ◌++◌, append_assoc, append-nil}
 use lib.Dec.{eqb}
 use lib.ListN.{length, drop}
 use borrow.Author.Tests.{eq-eqb, ne_eqb, eqb-true, eqb-false}
+use Rattle.std.specs.Prelude.{Option, Some, None, is_some}
+use Rattle.std.specs.Char.{to_ascii_uppercase}
 use Rattle.text.specs.Walk.{front}
 use Rattle.text.specs.Inverse.{Exact}
 use Rattle.text.proofs.Answers.{both}
@@ -19,8 +21,7 @@ use Rattle.duration_syntax.specs.declared.part.Part.{Part}
 use Rattle.duration_syntax.specs.declared.raw.DateParts.{DateParts}
 use Rattle.duration_syntax.specs.declared.raw.TimeParts.{TimeParts}
 use Rattle.duration_syntax.specs.declared.raw.DurationRaw.{DurationRaw}
-use Rattle.duration_syntax.specs.declared.raw.DurationRead.{DurationRead}
-use Rattle.duration_syntax.specs.Read.{capital, part_at, past_part, there, date_at, after_date, time_parts_at, no_time, time_at, after_time, sign_at, after_sign, in_date, in_time, duration_fits, duration_of, duration_from, duration, duration_good}
+use Rattle.duration_syntax.specs.Read.{part_at, past_part, date_at, after_date, time_parts_at, time_at, after_time, sign_at, after_sign, in_date, some_time, whole_time, duration_fits, duration_of, duration_from, duration}
 use Rattle.duration_syntax.specs.Syntax.{PartTree, absent, whole, fractional, part_text, PartOk, part_kept, present, DateTree, date_text, DateOk, date_kept, date_some, TimeTree, none, marked, time_text, TimeOk, time_kept, time_some, SignTree, unsigned, signed, sign_text, SignOk, sign_kept, DurationTree, duration_text, DurationOk, duration_kept}
 use Rattle.duration_syntax.proofs.PartLaws.{letter_past, letter_digit, letter_some, part_exact, part_quiet, part_other}
 
@@ -52,7 +53,7 @@ differs a b e f = false≢true (rw (eq-eqb a b f) at e)
 
 module _ (r : List ℕ) (q : digit_byte (front r) ≡ false) where
   row_none : (upper : ℕ) (may : Bool) (ss : List Slot) → 65 ≤ upper → others upper ss ≡ true → Row ss
-      → part_at upper may (texts ss r) ≡ Part.Absent
+      → part_at upper may (texts ss r) ≡ None
   row_none upper may [] h e o = part_quiet upper may r q
   row_none upper may (s ∷ ss) h e o =
       let b = both (not (eqb s.upper upper)) (others upper ss) e in
@@ -149,7 +150,7 @@ module _ (h m s : PartTree) where
 -- what may stand after a time: no digit and no `T`
 pub record Quiet (r : List ℕ) : Type 0 where
   pub digit : digit_byte (front r) ≡ false
-  pub mark : eqb (capital (front r)) 84 ≡ false
+  pub mark : eqb (to_ascii_uppercase (front r)) 84 ≡ false
 
 time_split : (b : ℕ) (h m s : PartTree) (r : List ℕ) → time_text (marked b h m s) ++ r ≡ b ∷ texts (hours_on h m s) r
 time_split b h m s r = simp append_assoc
@@ -163,7 +164,7 @@ time_text_lem (marked b h m s) r o q =
     let o₀ : Row (hours_on h m s) = (omega arith, o.hours, refl, o₁) in
     ap time_at (time_split b h m s r)
     ∙ rw (
-      eq-eqb (capital b) 84 o.mark,
+      eq-eqb (to_ascii_uppercase b) 84 o.mark,
       passes r q.digit (slot 72 false h) (minutes_on h m s) o₀,
       passes r q.digit (slot 77 false m) (seconds_on h m s) o₁,
       reads r q.digit (slot 72 false h) (minutes_on h m s) o₀,
@@ -172,45 +173,40 @@ time_text_lem (marked b h m s) r o q =
     )
 
 time-past : (t : TimeTree) (r : List ℕ) → TimeOk t → after_time (time_kept t) (time_text t ++ r) ≡ r
-unfolding after_time
 time-past none r o = refl
 time-past (marked b h m s) r o =
     ap (after_time (time_kept (marked b h m s))) (time_split b h m s r)
     ∙ rw (
-      letter_some b (omega arith) o.mark,
       (part_exact 72 false (omega arith)).passes h (texts (minutes_on h m s) r) o.hours,
       (part_exact 77 false (omega arith)).passes m (texts (seconds_on h m s) r) o.minutes,
       (part_exact 83 true (omega arith)).passes s r o.seconds,
     )
 
-there_kept : (t : PartTree) → there (part_kept t) ≡ present t
+there_kept : (t : PartTree) → is_some (part_kept t) ≡ present t
 unfolding part_kept
 there_kept absent = refl
 there_kept (whole ds b) = refl
 there_kept (fractional ds p fs b) = refl
 
-kept_there : {k : Part} (t : PartTree) → k ≡ part_kept t → there k ≡ present t
-kept_there t e = ap there e ∙ there_kept t
+kept_there : {k : Option Part} (t : PartTree) → k ≡ part_kept t → is_some k ≡ present t
+kept_there t e = ap (λ (k : Option Part). is_some k) e ∙ there_kept t
 
-time-some : {h m s : Part} (t u v : PartTree) → h ≡ part_kept t → m ≡ part_kept u → s ≡ part_kept v
-    → (there h || there m || there s) ≡ (present t || present u || present v)
+time-some : {h m s : Option Part} (t u v : PartTree) → h ≡ part_kept t → m ≡ part_kept u → s ≡ part_kept v
+    → (is_some h || is_some m || is_some s) ≡ (present t || present u || present v)
 time-some t u v e f g = rw (kept_there t e, kept_there u f, kept_there v g)
 
-abbrev time_good : TimeParts → Bool
-time_good t = eqb t.mark 0 || in_time t
-
-time_sound : (l : List ℕ) → time_good (time_at l) ≡ true
+time_sound : (l : List ℕ) → whole_time (time_at l) ≡ true
     → (t : TimeTree) × TimeOk t × (time_at l ≡ time_kept t) × (l ≡ time_text t ++ after_time (time_at l) l)
-unfolding time_at time_parts_at after_time
-time_sound l g = go (eqb (capital (front l)) 84) refl g
+unfolding time_at time_parts_at
+time_sound l g = go (eqb (to_ascii_uppercase (front l)) 84) refl g
   where
-    go : (t : Bool) → eqb (capital (front l)) 84 ≡ t → time_good (cond t (time_parts_at (front l) (drop 1 l)) no_time) ≡ true
-        → (u : TimeTree) × TimeOk u × (cond t (time_parts_at (front l) (drop 1 l)) no_time ≡ time_kept u)
-        × (l ≡ time_text u ++ after_time (cond t (time_parts_at (front l) (drop 1 l)) no_time) l)
+    go : (t : Bool) → eqb (to_ascii_uppercase (front l)) 84 ≡ t → whole_time (cond t (Some (time_parts_at (front l) (drop 1 l))) None) ≡ true
+        → (u : TimeTree) × TimeOk u × (cond t (Some (time_parts_at (front l) (drop 1 l))) None ≡ time_kept u)
+        × (l ≡ time_text u ++ after_time (cond t (Some (time_parts_at (front l) (drop 1 l))) None) l)
     go false e g = (none, tt, refl, refl)
     go true e g =
         let b = front l in
-        let k = eqb-true (capital b) 84 e in
+        let k = eqb-true (to_ascii_uppercase b) 84 e in
         let z = letter_some b (omega arith) k in
         let l₀ = drop 1 l in
         let l₁ = past_part 72 false l₀ in
@@ -226,72 +222,63 @@ time_sound l g = go (eqb (capital (front l)) 84) refl g
         let f₂ = s.3 in
         let x : l ≡ b ∷ l₀ = front-cons l (eqb-false _ _ z) in
         let y = time_split b h.0 m.0 s.0 (past_part 83 true l₂) in
-        let some = sym (time-some h.0 m.0 s.0 e₀ e₁ e₂) ∙ (rw z at g) in (
-          marked b h.0 m.0 s.0,
-          record { mark = k; hours = h.1; minutes = m.1; seconds = s.1; some = some },
-          cc,
-          rw z (cc),
-        )
+        let some = sym (time-some h.0 m.0 s.0 e₀ e₁ e₂) ∙ g in
+        (marked b h.0 m.0 s.0, record { mark = k; hours = h.1; minutes = m.1; seconds = s.1; some = some }, cc, cc)
 
 -- ---- the sign
 
 sign_text_lem : (s : SignTree) (l : List ℕ) → SignOk s → sign_byte (front l) ≡ false
     → (sign_at (sign_text s ++ l) ≡ sign_kept s) × (after_sign (sign_kept s) (sign_text s ++ l) ≡ l)
-unfolding sign_at after_sign
+unfolding sign_at
 sign_text_lem unsigned l o q = (rw q, refl)
-sign_text_lem (signed b) l o q = let z : eqb b 0 ≡ false = one_of b 43 45 o (λ b. eqb b 0 ≡ false) refl refl in (rw o, rw z)
+sign_text_lem (signed b) l o q = (rw o, refl)
 
 sign_sound : (l : List ℕ) → (s : SignTree) × SignOk s × (sign_at l ≡ sign_kept s) × (l ≡ sign_text s ++ after_sign (sign_at l) l)
-unfolding sign_at after_sign
+unfolding sign_at
 sign_sound l = go (sign_byte (front l)) refl
   where
     go : (t : Bool) → sign_byte (front l) ≡ t
-        → (s : SignTree) × SignOk s × (cond t (front l) 0 ≡ sign_kept s) × (l ≡ sign_text s ++ after_sign (cond t (front l) 0) l)
+        → (s : SignTree) × SignOk s × (cond t (Some (front l)) None ≡ sign_kept s) × (l ≡ sign_text s ++ after_sign (cond t (Some (front l)) None) l)
     go false e = (unsigned, tt, refl, refl)
     go true e =
         let z : eqb (front l) 0 ≡ false = one_of (front l) 43 45 e (λ b. eqb b 0 ≡ false) refl refl in
-        (signed (front l), e, refl, rw z (front-cons l (eqb-false _ _ z)))
+        (signed (front l), e, refl, front-cons l (eqb-false _ _ z))
 
-letter_sign : {upper : ℕ} (b : ℕ) → 65 ≤ upper → capital b ≡ upper → sign_byte b ≡ false
+letter_sign : {upper : ℕ} (b : ℕ) → 65 ≤ upper → to_ascii_uppercase b ≡ upper → sign_byte b ≡ false
 letter_sign b h e =
     let k = letter_past b h e in
     rw (ne_eqb b 43 (λ z. omega arith), ne_eqb b 45 (λ z. omega arith))
 
 -- ---- the whole
 
-or-true : (t : Bool) → (t || true) ≡ true
-or-true true = refl
-or-true false = refl
-
 date-some : (d : DateTree) → in_date (date_kept d) ≡ date_some d
 date-some d = rw (there_kept d.years, there_kept d.months, there_kept d.weeks, there_kept d.days)
 
-time_in : (t : TimeTree) → TimeOk t → in_time (time_kept t) ≡ time_some t
+time_in : (t : TimeTree) → TimeOk t → some_time (time_kept t) ≡ time_some t
 time_in none o = refl
 time_in (marked b h m s) o = time-some h m s refl refl refl ∙ o.some
 
-time_good_lem : (t : TimeTree) → TimeOk t → time_good (time_kept t) ≡ true
-time_good_lem none o = refl
-time_good_lem (marked b h m s) o = rw (time_in (marked b h m s) o) (or-true (eqb b 0))
+time-good : (t : TimeTree) → TimeOk t → whole_time (time_kept t) ≡ true
+time-good none o = refl
+time-good (marked b h m s) o = time_in (marked b h m s) o
 
 -- at least one part: as the reader finds it, and as the grammar has it
-some_part : {p : DateParts} {q : TimeParts} (d : DateTree) (t : TimeTree) → p ≡ date_kept d → q ≡ time_kept t → TimeOk t
-    → (in_date p || in_time q) ≡ (date_some d || time_some t)
-some_part d t e f o = rw (ap in_date e ∙ date-some d, ap in_time f ∙ time_in t o)
+some_part : {p : DateParts} {q : Option TimeParts} (d : DateTree) (t : TimeTree) → p ≡ date_kept d → q ≡ time_kept t → TimeOk t
+    → (in_date p || some_time q) ≡ (date_some d || time_some t)
+some_part d t e f o = rw (ap in_date e ∙ date-some d, ap some_time f ∙ time_in t o)
 
 time-front : (t : TimeTree) → TimeOk t → digit_byte (front (time_text t)) ≡ false
 time-front none o = refl
 time-front (marked b h m s) o = letter_digit b (omega arith) o.mark
 
 time-whole : (t : TimeTree) → TimeOk t → time_at (time_text t) ≡ time_kept t
-unfolding capital
 time-whole t o = ap time_at (sym (append-nil (time_text t))) ∙ time_text_lem t [] o (record { digit = refl; mark = refl })
 
 time_end : (t : TimeTree) → TimeOk t → after_time (time_kept t) (time_text t) ≡ []
 time_end t o = ap (after_time (time_kept t)) (sym (append-nil (time_text t))) ∙ time-past t [] o
 
-from_text : (s p : ℕ) (d : DateTree) (t : TimeTree) → capital p ≡ 80 → DateOk d → TimeOk t → (date_some d || time_some t) ≡ true
-    → duration_from s (p ∷ date_text d ++ time_text t) ≡ DurationRead.Is (record { sign = s; start = p; date = date_kept d; time = time_kept t })
+from_text : (s : Option ℕ) (p : ℕ) (d : DateTree) (t : TimeTree) → to_ascii_uppercase p ≡ 80 → DateOk d → TimeOk t → (date_some d || time_some t) ≡ true
+    → duration_from s (p ∷ date_text d ++ time_text t) ≡ Some (record { sign = s; start = p; date = date_kept d; time = time_kept t })
 unfolding duration_from duration_of duration_fits
 from_text s p d t e o q some =
     rw (
@@ -299,9 +286,9 @@ from_text s p d t e o q some =
       date-past d (time_text t) o,
       time-whole t q,
       time_end t q,
-      eq-eqb (capital p) 80 e,
+      eq-eqb (to_ascii_uppercase p) 80 e,
       some_part d t refl refl q ∙ some,
-      time_good_lem t q,
+      time-good t q,
     )
 
 duration_text_lem : (t : DurationTree) → DurationOk t → duration (duration_text t) ≡ duration_kept t
@@ -314,15 +301,14 @@ no_bytes : (l : List ℕ) → length l ≡ 0 → l ≡ []
 no_bytes [] e = refl
 no_bytes (b ∷ l) e = absurd (omega arith)
 
-good_fits : (t : Bool) (d : DurationRaw) → duration_good (cond t (DurationRead.Is d) DurationRead.Bad) ≡ true
-    → (t ≡ true) × (cond t (DurationRead.Is d) DurationRead.Bad ≡ DurationRead.Is d)
+good_fits : (t : Bool) (d : DurationRaw) → is_some (cond t (Some d) None) ≡ true → (t ≡ true) × (cond t (Some d) None ≡ Some d)
 good_fits true d e = (refl, refl)
 good_fits false d e = absurd (false≢true e)
 
 -- what was read after the sign, from the parts of it that stand there
-from_sound : (s : ℕ) (l : List ℕ) → duration_good (duration_from s l) ≡ true
-    → (d : DateTree) × (t : TimeTree) × (capital (front l) ≡ 80) × DateOk d × TimeOk t × ((date_some d || time_some t) ≡ true) × (l ≡ front l ∷ date_text d ++ time_text t)
-    × (duration_from s l ≡ DurationRead.Is (record { sign = s; start = front l; date = date_kept d; time = time_kept t }))
+from_sound : (s : Option ℕ) (l : List ℕ) → is_some (duration_from s l) ≡ true
+    → (d : DateTree) × (t : TimeTree) × (to_ascii_uppercase (front l) ≡ 80) × DateOk d × TimeOk t × ((date_some d || time_some t) ≡ true) × (l ≡ front l ∷ date_text d ++ time_text t)
+    × (duration_from s l ≡ Some (record { sign = s; start = front l; date = date_kept d; time = time_kept t }))
 unfolding duration_from duration_of duration_fits
 from_sound s l g =
     let l₁ = drop 1 l in
@@ -333,7 +319,7 @@ from_sound s l g =
     let (a, none_left) = both _ _ f in
     let (b, good) = both _ _ a in
     let (c, some) = both _ _ b in
-    let k = eqb-true (capital (front l)) 80 c in
+    let k = eqb-true (to_ascii_uppercase (front l)) 80 c in
     let d = date_sound l₁ in
     let t = time_sound l₂ good in
     let e₀ = d.2 in
@@ -352,7 +338,7 @@ from_sound s l g =
       cc,
     )
 
-duration_sound : (l : List ℕ) → duration_good (duration l) ≡ true
+duration_sound : (l : List ℕ) → is_some (duration l) ≡ true
     → (t : DurationTree) × DurationOk t × (duration l ≡ duration_kept t) × (l ≡ duration_text t)
 unfolding duration duration_text duration_kept
 duration_sound l g =
@@ -369,6 +355,6 @@ duration_sound l g =
       cc,
     )
 
-pub duration_exact : Exact DurationTree DurationRead duration duration_good duration_text DurationOk duration_kept
+pub duration_exact : Exact DurationTree (Option DurationRaw) duration is_some duration_text DurationOk duration_kept
 unfolding duration_kept
 duration_exact = record { reads = duration_text_lem; accepts = λ t o. refl; sound = duration_sound }

@@ -1,15 +1,16 @@
 -- The grammar of a duration, as document 01 has it: the syntax trees, the text of each, which trees are of the grammar, and what a reader
 -- keeps of them. Assumes nothing: these are definitions.
-use Rattle.std.specs.Prelude.{ℕ, ◌<◌, Bool, true, false, ◌||◌, ◌≡◌, List, [], ◌∷◌, ◌++◌, length}
+use Rattle.std.specs.Prelude.{ℕ, ◌<◌, Bool, true, false, ◌||◌, ◌≡◌, List, [], ◌∷◌, ◌++◌, length, Option, Some, None}
+use Rattle.std.specs.Char.{to_ascii_uppercase}
 use Rattle.text.specs.Digits.{shown, AllDigits}
 use Rattle.names.specs.Grammar.{sign_byte}
-use Rattle.time_syntax.specs.Read.{point_byte, no_fraction}
+use Rattle.time_syntax.specs.Read.{point_byte}
 use Rattle.time_syntax.specs.Syntax.{nanos_of}
 use Rattle.duration_syntax.specs.declared.part.Part.{Part}
 use Rattle.duration_syntax.specs.declared.raw.DateParts.{DateParts}
 use Rattle.duration_syntax.specs.declared.raw.TimeParts.{TimeParts}
-use Rattle.duration_syntax.specs.declared.raw.DurationRead.{DurationRead}
-use Rattle.duration_syntax.specs.Read.{capital, number_of, no_time}
+use Rattle.duration_syntax.specs.declared.raw.DurationRaw.{DurationRaw}
+use Rattle.duration_syntax.specs.Read.{number_of}
 
 -- ---- a part: nothing; digits and the unit's letter; or digits, the point's byte, more digits and the letter
 
@@ -27,7 +28,7 @@ part_text (fractional ds p fs b) = shown ds ++ (p ∷ shown fs ++ (b ∷ []))
 pub record NumberOk (upper : ℕ) (ds : List ℕ) (b : ℕ) : Type 0 where
   pub some : 0 < length ds
   pub digits : AllDigits ds
-  pub letter : capital b ≡ upper
+  pub letter : to_ascii_uppercase b ≡ upper
 
 -- `.` or `,`, and one or more digits
 pub record FractionOk (p : ℕ) (fs : List ℕ) : Type 0 where
@@ -42,10 +43,11 @@ PartOk upper may (whole ds b) = NumberOk upper ds b
 PartOk upper may (fractional ds p fs b) = NumberOk upper ds b × FractionOk p fs × (may ≡ true)
 
 -- of the digits of a number, how many there are and what they stand for; of a fraction, the nanoseconds that the first nine digits make
-unfoldable pub part_kept : PartTree → Part
-part_kept absent = Part.Absent
-part_kept (whole ds b) = Part.Is (number_of ds) no_fraction b
-part_kept (fractional ds p fs b) = Part.Is (number_of ds) (record { point = p; nanos = nanos_of fs; digits = length fs }) b
+unfoldable pub part_kept : PartTree → Option Part
+part_kept absent = None
+part_kept (whole ds b) = Some (record { number = number_of ds; fraction = None; letter = b })
+part_kept (fractional ds p fs b) =
+    Some (record { number = number_of ds; fraction = Some (record { point = p; nanos = nanos_of fs; digits = length fs }); letter = b })
 
 abbrev pub present : PartTree → Bool
 present absent = false
@@ -86,7 +88,7 @@ time_text none = []
 time_text (marked b h m s) = b ∷ part_text h ++ (part_text m ++ part_text s)
 
 pub record MarkedOk (b : ℕ) (h m s : PartTree) : Type 0 where
-  pub mark : capital b ≡ 84
+  pub mark : to_ascii_uppercase b ≡ 84
   pub hours : PartOk 72 false h
   pub minutes : PartOk 77 false m
   pub seconds : PartOk 83 true s
@@ -96,9 +98,9 @@ abbrev pub TimeOk : TimeTree → Type 0
 TimeOk none = Unit {0}
 TimeOk (marked b h m s) = MarkedOk b h m s
 
-abbrev pub time_kept : TimeTree → TimeParts
-time_kept none = no_time
-time_kept (marked b h m s) = record { mark = b; hours = part_kept h; minutes = part_kept m; seconds = part_kept s }
+abbrev pub time_kept : TimeTree → Option TimeParts
+time_kept none = None
+time_kept (marked b h m s) = Some (record { mark = b; hours = part_kept h; minutes = part_kept m; seconds = part_kept s })
 
 abbrev pub time_some : TimeTree → Bool
 time_some none = false
@@ -118,9 +120,9 @@ abbrev pub SignOk : SignTree → Type 0
 SignOk unsigned = Unit {0}
 SignOk (signed b) = sign_byte b ≡ true
 
-abbrev pub sign_kept : SignTree → ℕ
-sign_kept unsigned = 0
-sign_kept (signed b) = b
+abbrev pub sign_kept : SignTree → Option ℕ
+sign_kept unsigned = None
+sign_kept (signed b) = Some b
 
 pub record DurationTree : Type 0 where
   pub sign : SignTree
@@ -133,11 +135,10 @@ duration_text t = sign_text t.sign ++ (t.start ∷ date_text t.date ++ time_text
 
 pub record DurationOk (t : DurationTree) : Type 0 where
   pub sign : SignOk t.sign
-  pub start : capital t.start ≡ 80
+  pub start : to_ascii_uppercase t.start ≡ 80
   pub date : DateOk t.date
   pub time : TimeOk t.time
   pub some : (date_some t.date || time_some t.time) ≡ true
 
-unfoldable pub duration_kept : DurationTree → DurationRead
-duration_kept t =
-    DurationRead.Is (record { sign = sign_kept t.sign; start = t.start; date = date_kept t.date; time = time_kept t.time })
+unfoldable pub duration_kept : DurationTree → Option DurationRaw
+duration_kept t = Some (record { sign = sign_kept t.sign; start = t.start; date = date_kept t.date; time = time_kept t.time })

@@ -1,104 +1,57 @@
 // A part of a duration at the front of a text: a number, a fraction where one may stand, and the unit's letter in either case.
 ghost use Rattle.std.specs.Prelude.{◌≡◌};
-ghost use Rattle.duration_syntax.specs.Read.{capital, fraction_if, past_fraction, part_fits, part_of, part_at, after_part};
+ghost use Rattle.duration_syntax.specs.Read.{fraction_if, part_fits, part_at, past_part};
 
 use crate::number::Number;
 use time_syntax::fraction::Fraction;
 
-#[derive(Clone, Copy)]
-pub enum Part {
-    Absent,
-    Is {
-        number: Number,
-        fraction: Fraction,
-        letter: u8,
-    },
-}
-
-// A letter's capital; any other byte as it is.
-pub fn capital_of(b: u8) -> u8
-    ensures { result ≡ capital b }
-{
-    if names::class::is_lower(b) {
-        return b - 32;
-    }
-    b
+#[derive(Clone, Copy, Debug, PartialEq, Eq)]
+pub struct Part {
+    pub number: Number,
+    pub fraction: Option<Fraction>,
+    pub letter: u8,
 }
 
 // The fraction at the front, where one may stand.
-pub fn fraction_if(t: &[u8], fractional: bool) -> Fraction
+pub fn fraction_if(t: &[u8], fractional: bool) -> Option<Fraction>
     ensures { result ≡ fraction_if fractional t.now }
 {
     if fractional {
-        return time_syntax::fraction::fraction_at(t);
+        time_syntax::fraction::fraction_at(t)
+    } else {
+        None
     }
-    Fraction {
-        point: 0,
-        nanos: 0,
-        digits: 0,
-    }
-}
-
-// What follows a fraction. Lengths are not added: what is dropped is dropped twice.
-pub fn past_fraction<'a>(t: &'a [u8], f: Fraction) -> &'a [u8]
-    ensures { result.now ≡ past_fraction f t.now }
-{
-    if f.point == 0 {
-        return t;
-    }
-    text::walk::rest(text::walk::rest(t, 1), f.digits)
 }
 
 // There are digits, a point has digits too, and the letter is the unit's.
-pub fn part_fits(upper: u8, number: Number, fraction: Fraction, letter: u8) -> bool
-    ensures { result ≡ part_fits upper number fraction letter }
+#[tactic(auto, unfolding(crate::specs::Read::part_fits))]
+pub fn part_fits(upper: u8, p: Part) -> bool
+    ensures { result ≡ part_fits upper p }
 {
-    (0 < number.digits)
-        & ((fraction.point == 0) | (0 < fraction.digits))
-        & (capital_of(letter) == upper)
+    0 < p.number.digits
+        && time_syntax::fraction::has_digits(p.fraction)
+        && p.letter.to_ascii_uppercase() == upper
 }
 
-pub fn part_of(upper: u8, number: Number, fraction: Fraction, letter: u8) -> Part
-    ensures { result ≡ part_of upper number fraction letter }
-{
-    if part_fits(upper, number, fraction, letter) {
-        return Part::Is {
-            number,
-            fraction,
-            letter,
-        };
-    }
-    Part::Absent
-}
-
-// The part of one unit at the front. Every unit is read by this one function.
-pub fn part_at(t: &[u8], upper: u8, fractional: bool) -> Part
-    ensures { result ≡ part_at upper fractional t.now }
+// The part of one unit at the front, and what follows it: the whole text where there is none. Every unit is read by this one function.
+#[tactic(auto, unfolding(crate::specs::Read::part_at, crate::specs::Read::part_of))]
+pub fn part_at(t: &[u8], upper: u8, fractional: bool) -> (Option<Part>, &[u8])
+    ensures part { result.0 ≡ part_at upper fractional t.now }
+    ensures rest { result.1.now ≡ past_part upper fractional t.now }
 {
     let number = super::number::number_at(t);
-    let rest = text::walk::rest(t, number.digits);
-    let fraction = fraction_if(rest, fractional);
-    part_of(
-        upper,
+    let after_number = text::walk::rest(t, number.digits);
+    let fraction = fraction_if(after_number, fractional);
+    let left = time_syntax::fraction::past_fraction(after_number, fraction);
+    let letter = text::walk::first(left);
+    let part = Part {
         number,
         fraction,
-        text::walk::first(past_fraction(rest, fraction)),
-    )
-}
-
-// What follows a part; the whole text where there is none.
-pub fn after_part<'a>(t: &'a [u8], p: Part) -> &'a [u8]
-    ensures { result.now ≡ after_part p t.now }
-{
-    match p {
-        Part::Absent => t,
-        Part::Is {
-            number,
-            fraction,
-            letter: _,
-        } => text::walk::rest(
-            past_fraction(text::walk::rest(t, number.digits), fraction),
-            1,
-        ),
+        letter,
+    };
+    if part_fits(upper, part) {
+        (Some(part), text::walk::rest(left, 1))
+    } else {
+        (None, t)
     }
 }

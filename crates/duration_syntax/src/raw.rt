@@ -1,212 +1,130 @@
 // A whole text of document 01's duration grammar, with what it says of each part.
 ghost use Rattle.std.specs.Prelude.{◌≡◌};
-ghost use Rattle.duration_syntax.specs.Read.{there, date_at, after_date, time_parts_at, time_at, after_time, sign_at, after_sign, in_date, in_time, duration_fits, duration_of, duration_from, duration};
+ghost use Rattle.duration_syntax.specs.Read.{date_at, after_date, time_at, after_time, sign_at, after_sign, in_date, in_time, duration_fits, duration};
 
-use crate::part::Part;
+use crate::part::{Part, part_at};
 
-#[derive(Clone, Copy)]
+#[derive(Clone, Copy, Debug, PartialEq, Eq)]
 pub struct DateParts {
-    pub years: Part,
-    pub months: Part,
-    pub weeks: Part,
-    pub days: Part,
+    pub years: Option<Part>,
+    pub months: Option<Part>,
+    pub weeks: Option<Part>,
+    pub days: Option<Part>,
 }
 
-// The byte of `T`, or 0 where there is none, and the parts after it.
-#[derive(Clone, Copy)]
+// The byte of `T`, and the parts after it.
+#[derive(Clone, Copy, Debug, PartialEq, Eq)]
 pub struct TimeParts {
     pub mark: u8,
-    pub hours: Part,
-    pub minutes: Part,
-    pub seconds: Part,
+    pub hours: Option<Part>,
+    pub minutes: Option<Part>,
+    pub seconds: Option<Part>,
 }
 
-// The byte of the sign, or 0 where there is none; the byte of `P`; the parts.
-#[derive(Clone, Copy)]
+// The byte of the sign and that of `P`; the parts.
+#[derive(Clone, Copy, Debug, PartialEq, Eq)]
 pub struct DurationRaw {
-    pub sign: u8,
+    pub sign: Option<u8>,
     pub start: u8,
     pub date: DateParts,
-    pub time: TimeParts,
+    pub time: Option<TimeParts>,
 }
 
-#[derive(Clone, Copy)]
-pub enum DurationRead {
-    Is(DurationRaw),
-    Bad,
-}
-
-// A part is there.
-pub fn is_there(p: Part) -> bool
-    ensures { result ≡ there p }
+// Years, months, weeks and days, each where its turn is, and what follows them.
+#[tactic(auto, unfolding(crate::specs::Read::date_at, crate::specs::Read::after_date))]
+pub fn date_at(t: &[u8]) -> (DateParts, &[u8])
+    ensures date { result.0 ≡ date_at t.now }
+    ensures rest { result.1.now ≡ after_date (date_at t.now) t.now }
 {
-    match p {
-        Part::Absent => false,
-        Part::Is { .. } => true,
-    }
-}
-
-// Years, months, weeks and days, each where its turn is.
-pub fn date_at(t: &[u8]) -> DateParts
-    ensures { result ≡ date_at t.now }
-{
-    let years = super::part::part_at(t, b'Y', false);
-    let after_years = super::part::after_part(t, years);
-    let months = super::part::part_at(after_years, b'M', false);
-    let after_months = super::part::after_part(after_years, months);
-    let weeks = super::part::part_at(after_months, b'W', false);
-    let after_weeks = super::part::after_part(after_months, weeks);
-    let days = super::part::part_at(after_weeks, b'D', false);
-    DateParts {
+    let (years, after_years) = part_at(t, b'Y', false);
+    let (months, after_months) = part_at(after_years, b'M', false);
+    let (weeks, after_weeks) = part_at(after_months, b'W', false);
+    let (days, after_days) = part_at(after_weeks, b'D', false);
+    let date = DateParts {
         years,
         months,
         weeks,
         days,
-    }
+    };
+    (date, after_days)
 }
 
-pub fn after_date<'a>(t: &'a [u8], d: DateParts) -> &'a [u8]
-    ensures { result.now ≡ after_date d t.now }
+// `T`, hours, minutes and seconds, and what follows them: the whole text where there is no `T`.
+#[tactic(auto, unfolding(crate::specs::Read::time_at, crate::specs::Read::time_parts_at))]
+pub fn time_at(t: &[u8]) -> (Option<TimeParts>, &[u8])
+    ensures time { result.0 ≡ time_at t.now }
+    ensures rest { result.1.now ≡ after_time (time_at t.now) t.now }
 {
-    let years = d.years;
-    let months = d.months;
-    let weeks = d.weeks;
-    let days = d.days;
-    let after_months = super::part::after_part(super::part::after_part(t, years), months);
-    super::part::after_part(super::part::after_part(after_months, weeks), days)
-}
-
-// Hours, minutes and seconds, after the byte of `T`.
-pub fn time_parts_at(mark: u8, t: &[u8]) -> TimeParts
-    ensures { result ≡ time_parts_at mark t.now }
-{
-    let hours = super::part::part_at(t, b'H', false);
-    let after_hours = super::part::after_part(t, hours);
-    let minutes = super::part::part_at(after_hours, b'M', false);
-    let after_minutes = super::part::after_part(after_hours, minutes);
-    let seconds = super::part::part_at(after_minutes, b'S', true);
-    TimeParts {
-        mark,
+    let [mark @ (b'T' | b't'), parts @ ..] = t else {
+        return (None, t);
+    };
+    let (hours, after_hours) = part_at(parts, b'H', false);
+    let (minutes, after_minutes) = part_at(after_hours, b'M', false);
+    let (seconds, after_seconds) = part_at(after_minutes, b'S', true);
+    let time = TimeParts {
+        mark: *mark,
         hours,
         minutes,
         seconds,
-    }
+    };
+    (Some(time), after_seconds)
 }
 
-pub fn time_at(t: &[u8]) -> TimeParts
-    ensures { result ≡ time_at t.now }
+// The byte of a sign at the front, and what follows it.
+#[tactic(auto, unfolding(crate::specs::Read::sign_at))]
+pub fn sign_at(t: &[u8]) -> (Option<u8>, &[u8])
+    ensures sign { result.0 ≡ sign_at t.now }
+    ensures rest { result.1.now ≡ after_sign (sign_at t.now) t.now }
 {
-    let b = text::walk::first(t);
-    if super::part::capital_of(b) == b'T' {
-        return time_parts_at(b, text::walk::rest(t, 1));
+    match t {
+        [sign @ (b'+' | b'-'), unsigned @ ..] => (Some(*sign), unsigned),
+        _ => (None, t),
     }
-    TimeParts {
-        mark: 0,
-        hours: Part::Absent,
-        minutes: Part::Absent,
-        seconds: Part::Absent,
-    }
-}
-
-pub fn after_time<'a>(t: &'a [u8], p: TimeParts) -> &'a [u8]
-    ensures { result.now ≡ after_time p t.now }
-{
-    if p.mark == 0 {
-        return t;
-    }
-    let hours = p.hours;
-    let minutes = p.minutes;
-    let seconds = p.seconds;
-    let after_hours = super::part::after_part(text::walk::rest(t, 1), hours);
-    super::part::after_part(super::part::after_part(after_hours, minutes), seconds)
-}
-
-// The byte of a sign at the front, or 0.
-pub fn sign_at(t: &[u8]) -> u8
-    ensures { result ≡ sign_at t.now }
-{
-    let b = text::walk::first(t);
-    if names::class::is_sign(b) {
-        return b;
-    }
-    0
-}
-
-pub fn after_sign<'a>(t: &'a [u8], sign: u8) -> &'a [u8]
-    ensures { result.now ≡ after_sign sign t.now }
-{
-    if sign == 0 {
-        return t;
-    }
-    text::walk::rest(t, 1)
 }
 
 pub fn in_date(d: DateParts) -> bool
     ensures { result ≡ in_date d }
 {
-    let years = d.years;
-    let months = d.months;
-    let weeks = d.weeks;
-    let days = d.days;
-    is_there(years) | is_there(months) | is_there(weeks) | is_there(days)
+    d.years.is_some() || d.months.is_some() || d.weeks.is_some() || d.days.is_some()
 }
 
 pub fn in_time(t: TimeParts) -> bool
     ensures { result ≡ in_time t }
 {
-    let hours = t.hours;
-    let minutes = t.minutes;
-    let seconds = t.seconds;
-    is_there(hours) | is_there(minutes) | is_there(seconds)
+    t.hours.is_some() || t.minutes.is_some() || t.seconds.is_some()
 }
 
 // `P`, at least one part, at least one after `T`, and no byte left.
+#[tactic(auto, unfolding(crate::specs::Read::duration_fits))]
 pub fn duration_fits(d: DurationRaw, left: usize) -> bool
     ensures { result ≡ duration_fits d left }
 {
-    let date = d.date;
-    let time = d.time;
-    let timed = in_time(time);
-    (super::part::capital_of(d.start) == b'P')
-        & (in_date(date) | timed)
-        & ((time.mark == 0) | timed)
-        & (left == 0)
-}
-
-pub fn duration_of(d: DurationRaw, left: usize) -> DurationRead
-    ensures { result ≡ duration_of d left }
-{
-    if duration_fits(d, left) {
-        return DurationRead::Is(d);
-    }
-    DurationRead::Bad
-}
-
-// The text after the sign.
-pub fn duration_from(sign: u8, t: &[u8]) -> DurationRead
-    ensures { result ≡ duration_from sign t.now }
-{
-    let start = text::walk::first(t);
-    let parts = text::walk::rest(t, 1);
-    let date = date_at(parts);
-    let after = after_date(parts, date);
-    let time = time_at(after);
-    let left = after_time(after, time);
-    duration_of(
-        DurationRaw {
-            sign,
-            start,
-            date,
-            time,
-        },
-        left.len(),
-    )
+    d.start.to_ascii_uppercase() == b'P'
+        && (in_date(d.date) || d.time.is_some_and(in_time))
+        && d.time.is_none_or(in_time)
+        && left == 0
 }
 
 // The whole text.
-pub fn duration(t: &[u8]) -> DurationRead
+#[tactic(auto, unfolding(crate::specs::Read::duration, crate::specs::Read::duration_from, crate::specs::Read::duration_of, crate::specs::Read::duration_fits))]
+pub fn duration(t: &[u8]) -> Option<DurationRaw>
     ensures { result ≡ duration t.now }
 {
-    let sign = sign_at(t);
-    duration_from(sign, after_sign(t, sign))
+    let (sign, unsigned) = sign_at(t);
+    let [start, parts @ ..] = unsigned else {
+        return None;
+    };
+    let (date, after_date) = date_at(parts);
+    let (time, after_time) = time_at(after_date);
+    let raw = DurationRaw {
+        sign,
+        start: *start,
+        date,
+        time,
+    };
+    if duration_fits(raw, after_time.len()) {
+        Some(raw)
+    } else {
+        None
+    }
 }

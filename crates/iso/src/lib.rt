@@ -10,22 +10,14 @@ ghost use Rattle.iso.specs.TimeOfDay.{valid_time};
 pub fn magnitude(year: i32) -> u32
     ensures { result ≡ nat_abs year }
 {
-    if year < 0 {
-        (-(year as i64)) as u32
-    } else {
-        year as u32
-    }
+    year.unsigned_abs()
 }
 
 pub fn is_leap(year: i32) -> bool
     ensures { result ≡ is_leap year }
 {
     let n = magnitude(year);
-    if n % 4 == 0 {
-        if n % 100 == 0 { n % 400 == 0 } else { true }
-    } else {
-        false
-    }
+    (n % 4 == 0) & ((n % 100 != 0) | (n % 400 == 0))
 }
 
 // The lengths of the months but February's, each at its own place.
@@ -49,16 +41,13 @@ pub fn iso_days_in_month(year: i32, month: u8) -> u8
 fn in_every_year(month: u8, day: u8) -> bool
     ensures { result ≡ (leb 1 month && leb month 12 && leb 1 day && leb day 28) }
 {
-    (1 <= month) & (month <= 12) & (1 <= day) & (day <= 28)
+    (1..=12).contains(&month) & (1..=28).contains(&day)
 }
 
 pub fn is_valid_date(year: i32, month: u8, day: u8) -> bool
     ensures { result ≡ valid_date year month day }
 {
-    if in_every_year(month, day) {
-        return true;
-    }
-    (1 <= day) & (day <= iso_days_in_month(year, month))
+    in_every_year(month, day) || (1 <= day) & (day <= iso_days_in_month(year, month))
 }
 
 pub fn is_valid_time(

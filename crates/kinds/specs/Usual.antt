@@ -1,25 +1,13 @@
--- Stamp texts as most are, by the places of their bytes: when the parts of a date and of a time fit, and what such a text is read as. These say nothing
--- that must be believed: the readers' contracts cite `Kinds`. Assumes nothing: these are definitions.
-use Rattle.std.specs.Prelude.{◌≡◌, ℕ, zero, suc, ◌+◌, ◌-◌, ◌/◌, ◌^◌, ◌≤◌, Bool, true, false, cond, ◌&&◌, ◌||◌, ltb, List, length, drop, pos, ◌==◌, nat_le, nat_lt, slice_index}
+-- Stamp texts as most are, by the places of their bytes: what their parts are read as, and where their fractions end. These say nothing that must be
+-- believed: the readers' contracts cite `Kinds`. Assumes nothing: these are definitions.
+use Rattle.std.specs.Prelude.{◌≡◌, ℕ, zero, suc, ◌+◌, ◌-◌, ◌/◌, ◌^◌, ◌≤◌, Bool, true, false, ◌||◌, List, [], length, drop, ◌==◌, slice_index, Option, Some}
 use Rattle.names.specs.Grammar.{sign_byte}
-use Rattle.names.specs.Field.{field}
-use Rattle.iso.specs.Gregorian.{valid_date}
-use Rattle.record.specs.declared.shown.Reading.{Reading}
-use Rattle.record.specs.declared.shown.Reading.TheVariants as reading
-use Rattle.record.specs.declared.stamp.DatePart.TheVariants as part
-use Rattle.record.specs.declared.shown.ClockPart.{ClockPart}
-use Rattle.record.specs.declared.shown.ClockPart.TheVariants as clock
-use Rattle.record.specs.declared.shown.ShownOffset.{ShownOffset}
-use Rattle.record.specs.declared.shown.NamePart.TheVariants as name
-use Rattle.time_syntax.specs.Read.{digits_from, fraction_of, fraction_at, past}
-use Rattle.meaning.specs.Shown.{second}
-
--- the parts of `YYYY-MM-DD`, and of `THH:MM:SS`: a pair of digits that is none is 100
-abbrev pub date_fits : ℕ → ℕ → ℕ → ℕ → ℕ → ℕ → Bool
-date_fits c y a m b d = nat_lt c 100 && nat_lt y 100 && a == 45 && nat_le 1 m && nat_le m 12 && b == 45 && nat_le 1 d && nat_le d 31
-
-abbrev pub clock_fits : ℕ → ℕ → ℕ → ℕ → ℕ → ℕ → Bool
-clock_fits e h a n b s = e == 84 && nat_le h 23 && a == 58 && nat_le n 59 && b == 58 && nat_le s 60
+use Rattle.date_syntax.specs.declared.DateRead.{DateRead}
+use Rattle.date_syntax.specs.Read.{date}
+use Rattle.time_syntax.specs.declared.fraction.Fraction.{Fraction}
+use Rattle.time_syntax.specs.declared.TimeRead.{TimeRead}
+use Rattle.time_syntax.specs.declared.UtcRead.{UtcRead}
+use Rattle.time_syntax.specs.Read.{digits_from, fraction_of, fraction_at, has_digits, past_fraction, time, past, utc, past_utc}
 
 -- how many nanoseconds the last of k digits of a fraction counts by
 abbrev pub unit : ℕ → ℕ
@@ -33,13 +21,6 @@ end_byte b = b == 90 || b == 0 || sign_byte b
 abbrev pub Tells : List ℕ → ℕ → ℕ → Type 0
 Tells l e v = fraction_of 46 (drop 20 l) ≡ digits_from 46 (drop e l) (e - 20) (unit (e - 20) / 10) v
 
--- the fraction after the second of l is of v nanoseconds, has at most nine digits, and ends at place e
-pub record Ends (l : List ℕ) (e v : ℕ) : Type 0 where
-  pub nanos : (fraction_at (drop 19 l)).nanos ≡ v
-  pub some : ((fraction_at (drop 19 l)).point == 0 || nat_lt 0 (fraction_at (drop 19 l)).digits) ≡ true
-  pub few : ltb 9 (fraction_at (drop 19 l)).digits ≡ false
-  pub after : past true (fraction_at (drop 19 l)).point (fraction_at (drop 19 l)).digits (drop 11 l) ≡ drop e l
-
 -- what follows place e of l, k bytes: nothing, `Z`, or a sign, two bytes, `:` and two bytes
 abbrev pub Rest : List ℕ → ℕ → ℕ → Type 0
 Rest l e zero = Unit {0}
@@ -52,17 +33,21 @@ pub record EndIs (l : List ℕ) (e : ℕ) : Type 0 where
   pub most : e ≤ length l
   pub rest : Rest l e (length l - e)
 
--- the digits of the offset there, if there is one
-unfoldable pub offset_fits : List ℕ → ℕ → Bool
-offset_fits l e = cond (nat_lt (length l - e) 6) true (nat_le (field 0 99 (drop (e + 1) l)) 23 && nat_le (field 0 99 (drop (e + 4) l)) 59)
+-- ---- the parts, each as its grammar reads it: the date, of a year of four digits; the fraction after the second, up to place e; the time up to there;
+-- and how it stands to UTC, up to the end
+pub record DayAt (l : List ℕ) (d : DateRead) : Type 0 where
+  pub date : date l ≡ Some d
+  pub plain : d.wide ≡ false
 
--- what is shown of a time
-abbrev pub clock_shown : ℕ → ℕ → ℕ → ℕ → ClockPart
-clock_shown h n s v = clock.Is (record { hour = h; minute = n; second = second s; nanosecond = v })
+pub record FractionAt (l : List ℕ) (e : ℕ) (f : Option Fraction) : Type 0 where
+  pub fraction : fraction_at (drop 19 l) ≡ f
+  pub some : has_digits f ≡ true
+  pub after : past_fraction f (drop 19 l) ≡ drop e l
 
--- the answer to such a text: 11, where the day is not in its month
-abbrev pub usual_answer : ℕ → ℕ → ℕ → ClockPart → ShownOffset → Reading
-usual_answer y m d c o =
-    cond (valid_date (pos y) m d)
-    (reading.Accepted (record { date = part.Is (record { year = pos y; month = m; day = d }); time = c; offset = o; zone = name.Absent; calendar = name.Absent }))
-    (reading.Refused 11)
+pub record TimeAt (l : List ℕ) (e : ℕ) (t : TimeRead) : Type 0 where
+  pub time : time (drop 11 l) ≡ Some t
+  pub after : past t (drop 11 l) ≡ drop e l
+
+pub record UtcAt (l : List ℕ) (e : ℕ) (u : Option UtcRead) : Type 0 where
+  pub utc : utc (drop e l) ≡ Some u
+  pub after : past_utc u (drop e l) ≡ []

@@ -1,48 +1,41 @@
 -- What is read of a text is what its syntax tree means.
---     stamp_refusal_lem, time_text_refusal_lem, year_month_refusal, month_day_refusal      the number of a text of the grammar is the stated function of its tree
---     stamp_says_lem, time_text_says_lem, year_month_says_lem, month_day_says_lem                  so is what it says
---     outside               a text that is not of the grammar has the number 6
+--     stamp_refusal_lem, time_text_refusal_lem, partial_refusal_lem        why a text of the grammar is refused is the stated function of its tree
+--     stamp_says_lem, time_text_says_lem, partial_says_lem                 so is what it says
+--     outside                                                              a text that is not of the grammar is refused for that
 -- Assumes nothing.
-use Prim.Native.Nat.{ℕ, ◌≤◌}
-use native.Mathlib.Omega.{arith}
-use mathlib.Core.Bool.{Bool, true, cond}
-use mathlib.Core.Path.{◌≡◌, refl, sym, ◌∙◌, ap}
-use mathlib.Core.List.{List, [], ◌∷◌, ◌++◌, append_assoc}
-use lib.ListN.{length, take, drop}
-use borrow.Author.Tests.{lt-ltb}
-use Rattle.record.specs.declared.stamp.DatePart.{DatePart}
-use Rattle.record.specs.declared.stamp.DatePart.TheVariants as part
-use Rattle.record.specs.declared.shown.ClockPart.TheVariants as clock
-use Rattle.record.specs.declared.shown.ShownOffset.TheVariants as offset
-use Rattle.record.specs.declared.shown.NamePart.TheVariants as name
+use Rattle.std.proofs.Common.{◌≡◌, ℕ, ◌≤◌, Bool, false, lt-ltb, arith, List, [], ◌∷◌, ◌++◌, length, Option, Some, None, Err, option_map, option_and_then, slice_get, is_some, refl, sym, ◌∙◌, ap, append_assoc}
+use Rattle.std.proofs.lemmas.Option.{some_pair_parts}
+use Rattle.text.specs.declared.refusal.Refusal.TheVariants.{BadText}
+use Rattle.record.specs.declared.stamp.Date.{Date}
+use Rattle.record.specs.Refusals.{Reading}
 use Rattle.date_syntax.specs.Syntax as dates
 use Rattle.time_syntax.specs.Syntax as times
-use Rattle.tail_syntax.specs.Read.{zone_part_of}
+use Rattle.time_syntax.specs.Read.{second_in, fraction_in, nanos_in, digits_in}
+use Rattle.tail_syntax.specs.declared.bracket.NameRead.{NameRead}
+use Rattle.tail_syntax.specs.Read.{part_of}
 use Rattle.tail_syntax.specs.Syntax as tails
 use Rattle.tail_syntax.proofs.Kept.{notes-told, zone_part_told, calendar_part_told}
 use Rattle.grammar.specs.declared.ClockRead.{ClockRead}
-use Rattle.grammar.specs.Read.{no_clock}
-use Rattle.grammar.specs.Syntax.{ClockTree, clock_text, clock_kept, PartTree, date_only, at, part_text, PartOk, part_kept, StampTree, stamp_text, StampOk, stamp_kept, lead_text, TimeTextTree, time_text_text, TimeTextOk, time_text_kept, YearMonthTextTree, year_month_text_text, YearMonthTextOk, year_month_text_kept, MonthDayTextTree, month_day_text_text, MonthDayTextOk, month_day_text_kept}
-use Rattle.grammar.proofs.Exact.{stamp_exact, time_text_exact, year_month_text_exact, month_day_text_exact}
-use Rattle.meaning.specs.declared.Faults.{Faults}
-use Rattle.meaning.specs.Shown.{second, shown_time, shown_utc, shown_date, shown_month_day, tail_zone, tail_calendar, shown}
-use Rattle.meaning.specs.Verdict.{verdict, time_digits, utc_digits, long_fraction, other_calendar, stamp_faults, time_faults, year_month_faults, month_day_faults}
+use Rattle.grammar.specs.Syntax.{date_is, utc_is, clock_text, clock_kept, PartTree, date_only, at, part_text, PartOk, part_kept, StampTree, stamp_text, StampOk, lead_text, TimeTextTree, time_text_text, TimeTextOk}
+use Rattle.meaning.specs.declared.Parts.{Parts}
+use Rattle.meaning.specs.Shown.{second, shown_time, shown_utc, shown_date, marked_name, shown}
+use Rattle.meaning.specs.Verdict.{verdict, read_by, long_fraction, other_calendar, faults_of}
 use Rattle.meaning.specs.Said.{said, name_said, said_by}
-use Rattle.meaning.specs.Trees.{second_of, fraction_of, time_says, utc_says, part_time, part_offset, zone_says, first_says, calendar_says, utc_fraction, clock_long, part_long, other_calendar_said, stamp_refusal, stamp_says, time_text_refusal, time_text_says, year_month_says, month_day_says, partial_refusal, partial_says}
+use Rattle.meaning.specs.Trees.{second_of, fraction_of, time_says, utc_says, part_time, part_offset, zone_says, first_says, calendar_says, part_long, other_calendar_said, stamp_refusal, stamp_says, time_text_refusal, time_text_says, partial_refusal, partial_says}
 
 -- ---- what follows the minute
-secs_digits : (s : times.SecsTree) → (times.secs_kept s).fraction.digits ≡ length (fraction_of s)
+secs_digits : (s : times.SecsTree) → digits_in (fraction_in (times.secs_kept s)) ≡ length (fraction_of s)
 secs_digits times.none = refl
 secs_digits (times.whole s) = refl
 secs_digits (times.part s p ds) = refl
 
-secs_nanos : (s : times.SecsTree) → (times.secs_kept s).fraction.nanos ≡ times.nanos_of (fraction_of s)
+secs_nanos : (s : times.SecsTree) → nanos_in (fraction_in (times.secs_kept s)) ≡ times.nanos_of (fraction_of s)
 unfolding times.nanos_of
 secs_nanos times.none = refl
 secs_nanos (times.whole s) = refl
 secs_nanos (times.part s p ds) = refl
 
-secs_second : (s : times.SecsTree) → second (times.secs_kept s).second ≡ second_of s
+secs_second : (s : times.SecsTree) → second (second_in (times.secs_kept s)) ≡ second_of s
 secs_second times.none = refl
 secs_second (times.whole s) = refl
 secs_second (times.part s p ds) = refl
@@ -51,136 +44,124 @@ small_second : (s : ℕ) → s ≤ 59 → second s ≡ s
 small_second s h = rw (lt-ltb s 60 (omega arith))
 
 -- ---- times
-time-shown : (t : times.TimeTree) → shown_time (times.time_kept t) ≡ clock.Is (time_says t)
-unfolding times.time_kept
+time-shown : (t : times.TimeTree) → shown_time (times.time_is t) ≡ time_says t
 time-shown t = rw (secs_second t.secs, secs_nanos t.secs)
 
-time_long : (t : times.TimeTree) → time_digits (times.time_kept t) ≡ length (fraction_of t.secs)
-unfolding times.time_kept
-time_long t = secs_digits t.secs
-
-utc-shown : (u : times.UtcTree) → times.UtcOk u → shown_utc (times.utc_kept u) ≡ utc_says u
-unfolding times.utc_kept
+utc-shown : (u : times.UtcTree) → times.UtcOk u → option_map shown_utc (utc_is u) ≡ utc_says u
 utc-shown times.absent ok = refl
 utc-shown (times.zulu b) ok = refl
 utc-shown (times.offset negative t) ok = rw (← secs_second t.secs, small_second _ ok.1, secs_nanos t.secs)
 
-utc_long : (u : times.UtcTree) → utc_digits (times.utc_kept u) ≡ length (utc_fraction u)
-unfolding times.utc_kept
-utc_long times.absent = refl
-utc_long (times.zulu b) = refl
-utc_long (times.offset negative t) = secs_digits t.secs
+clock_shown : (p : PartTree) → option_map (λ (c : ClockRead). shown_time c.time) (part_kept p) ≡ part_time p
+clock_shown date_only = refl
+clock_shown (at b c) = ap Some (time-shown c.time)
 
-clock_long_lem : (c : ClockTree) → long_fraction (clock_kept c) ≡ clock_long c.time c.utc
-unfolding long_fraction
-clock_long_lem c = rw (time_long c.time, utc_long c.utc)
+offset_shown : (p : PartTree) → PartOk p → option_map shown_utc (option_and_then (λ (c : ClockRead). c.utc) (part_kept p)) ≡ part_offset p
+offset_shown date_only ok = refl
+offset_shown (at b c) ok = utc-shown c.utc ok.1.utc
 
 part_long_lem : (p : PartTree) → long_fraction (part_kept p) ≡ part_long p
-unfolding long_fraction
 part_long_lem date_only = refl
-part_long_lem (at b c) = rw (time_long c.time, utc_long c.utc)
-
-part_time_lem : (p : PartTree) → shown_time (part_kept p).time ≡ part_time p
-part_time_lem date_only = refl
-part_time_lem (at b c) = time-shown c.time
-
-part_offset_lem : (p : PartTree) → PartOk p → shown_utc (part_kept p).utc ≡ part_offset p
-part_offset_lem date_only ok = refl
-part_offset_lem (at b c) ok = utc-shown c.utc ok.1.utc
+part_long_lem (at b c) = go c.utc
+  where
+    go : (u : times.UtcTree) → long_fraction (part_kept (at b (record { time = c.time; utc = u }))) ≡ part_long (at b (record { time = c.time; utc = u }))
+    go times.absent = rw (secs_digits c.time.secs)
+    go (times.zulu z) = rw (secs_digits c.time.secs)
+    go (times.offset negative t) = rw (secs_digits c.time.secs, secs_digits t.secs)
 
 -- ---- names, in any text that ends in the tail
-module _ (t : tails.TailTree) (p : List ℕ) where
-  zone_named : name_said (p ++ tails.tail_text t) (tail_zone (length (p ++ tails.tail_text t)) (tails.tail_kept t)) ≡ zone_says t.zone
-  zone_named = go t.zone (zone_part_told t p)
-    where
-      go : (z : tails.ZoneTree)
-          → zone_part_of (tails.tail_kept (record { zone = z; notes = t.notes })) (p ++ tails.tail_text t) ≡ tails.zone_name_of z
-          → name_said (p ++ tails.tail_text t) (tail_zone (length (p ++ tails.tail_text t)) (tails.tail_kept (record { zone = z; notes = t.notes }))) ≡ zone_says z
-      go tails.no_zone e = refl
-      go (tails.one_zone c n) e = ap (said c) e
+zone_named : (t : tails.TailTree) (p : List ℕ)
+    → name_said (p ++ tails.tail_text t) (option_map (marked_name (length (p ++ tails.tail_text t))) (tails.tail_kept t).zone) ≡ zone_says t.zone
+zone_named t p = go t.zone (zone_part_told t p)
+  where
+    l : List ℕ
+    l = p ++ tails.tail_text t
 
-name_first : (cs : List tails.NoteTree) (l : List ℕ) (a s : ℕ) {f c : Bool}
-    → f ≡ tails.some cs → c ≡ tails.first_mark cs → take s (drop a l) ≡ tails.first_value cs
-    → name_said l (cond f (name.Is (record { name = record { at = a; len = s }; critical = c })) name.Absent) ≡ first_says cs
-name_first [] l a s e g h = rw e
-name_first (n ∷ cs) l a s e g h = rw (e, g) (ap (said n.critical) h)
+    go : (z : tails.ZoneTree) → part_of (tails.zone_kept z (tails.notes_text t.notes)) l ≡ tails.zone_name_of z
+        → name_said l (option_map (marked_name (length l)) (tails.zone_kept z (tails.notes_text t.notes))) ≡ zone_says z
+    go tails.no_zone e = refl
+    go (tails.one_zone c n) e = ap (said c) e
+
+name_first : (cs : List tails.NoteTree) (l : List ℕ) (o : Option NameRead)
+    → option_map {U = Bool × ℕ} (λ (n : NameRead). (n.critical, n.size)) o ≡ option_map {U = Bool × ℕ} (λ (n : tails.NoteTree). (n.critical, length n.value)) (slice_get cs 0)
+    → part_of o l ≡ tails.first_value cs → name_said l (option_map (marked_name (length l)) o) ≡ first_says cs
+name_first [] l None e h = refl
+name_first (n ∷ cs) l None e h = absurd (cc)
+name_first [] l (Some m) e h = absurd (cc)
+name_first (n ∷ cs) l (Some m) e h = rw ((some_pair_parts _ _ _ _ e).0, h)
 
 calendar_named : (t : tails.TailTree) (p : List ℕ)
-    → name_said (p ++ tails.tail_text t) (tail_calendar (length (p ++ tails.tail_text t)) (tails.tail_kept t)) ≡ calendar_says t.notes
-calendar_named t p =
-    let w = notes-told t.notes in
-    name_first (tails.calendars t.notes) (p ++ tails.tail_text t) _ _ w.found w.critical (calendar_part_told t p)
+    → name_said (p ++ tails.tail_text t) (option_map (marked_name (length (p ++ tails.tail_text t))) (tails.tail_kept t).notes.calendar) ≡ calendar_says t.notes
+calendar_named t p = name_first (tails.calendars t.notes) (p ++ tails.tail_text t) _ (notes-told t.notes).calendar (calendar_part_told t p)
 
 -- ---- what is said, of a text l that is p and then the tail
-says_of : (d : DatePart) (c : ClockRead) (t : tails.TailTree) (l p : List ℕ) → l ≡ p ++ tails.tail_text t
-    → said_by l (shown (length l) d c (tails.tail_kept t))
-    ≡ record { date = d; time = shown_time c.time; offset = shown_utc c.utc; zone = zone_says t.zone; calendar = calendar_says t.notes }
+abbrev pub parts : Option Date → Option ClockRead → tails.TailTree → Parts
+parts d c t = record { date = d; clock = c; tail = tails.tail_kept t }
+
+says_of : (d : Option Date) (c : Option ClockRead) (t : tails.TailTree) (l p : List ℕ) → l ≡ p ++ tails.tail_text t
+    → said_by l (shown (length l) (parts d c t))
+    ≡ record {
+      date = d;
+      time = option_map (λ (c : ClockRead). shown_time c.time) c;
+      offset = option_map shown_utc (option_and_then (λ (c : ClockRead). c.utc) c);
+      zone = zone_says t.zone;
+      calendar = calendar_says t.notes;
+    }
 unfolding said_by shown
 says_of d c t l p e = rw (e, zone_named t p, calendar_named t p)
 
 -- ---- each kind of text
 module _ (w : StampTree) (ok : StampOk w) where
-  pub stamp_refusal_lem : verdict (stamp_faults (stamp_kept w)) ≡ stamp_refusal w
-  unfolding stamp_faults stamp_refusal
+  pub stamp_refusal_lem : verdict (faults_of false (parts (Some (shown_date (date_is w.date))) (part_kept w.part) w.tail)) ≡ stamp_refusal w
+  unfolding faults_of stamp_refusal
   stamp_refusal_lem =
       let t = notes-told w.tail.notes in
-      rw (stamp_exact.accepts w ok, t.unknown, part_long_lem w.part, t.clash)
+      rw (t.unknown, part_long_lem w.part, t.clash)
 
-  pub stamp_says_lem : said_by (stamp_text w) (shown (length (stamp_text w)) (shown_date (dates.date_kept w.date)) (part_kept w.part) (tails.tail_kept w.tail)) ≡ stamp_says w
+  pub stamp_says_lem : said_by (stamp_text w) (shown (length (stamp_text w)) (parts (Some (shown_date (date_is w.date))) (part_kept w.part) w.tail)) ≡ stamp_says w
   unfolding stamp_says
   stamp_says_lem =
       says_of _ (part_kept w.part) w.tail (stamp_text w) (dates.date_text w.date ++ part_text w.part)
       (sym (append_assoc (dates.date_text w.date) (part_text w.part) (tails.tail_text w.tail)))
-      ∙ rw (part_time_lem w.part, part_offset_lem w.part ok.part)
+      ∙ rw (clock_shown w.part, offset_shown w.part ok.part)
 
 module _ (w : TimeTextTree) (ok : TimeTextOk w) where
-  pub time_text_refusal_lem : verdict (time_faults (time_text_kept w)) ≡ time_text_refusal w
-  unfolding time_faults time_text_refusal
+  pub time_text_refusal_lem : verdict (faults_of false (parts None (Some (clock_kept w.lead w.clock)) w.tail)) ≡ time_text_refusal w
+  unfolding faults_of time_text_refusal
   time_text_refusal_lem =
       let t = notes-told w.tail.notes in
-      rw (time_text_exact.accepts w ok, t.unknown, clock_long_lem w.clock, t.clash)
+      rw (t.unknown, part_long_lem (at 0 w.clock), t.clash)
 
-  pub time_text_says_lem : said_by (time_text_text w) (shown (length (time_text_text w)) part.Absent (clock_kept w.clock) (tails.tail_kept w.tail)) ≡ time_text_says w
+  pub time_text_says_lem : said_by (time_text_text w) (shown (length (time_text_text w)) (parts None (Some (clock_kept w.lead w.clock)) w.tail)) ≡ time_text_says w
   unfolding time_text_says
   time_text_says_lem =
-      says_of _ (clock_kept w.clock) w.tail (time_text_text w) (lead_text w.lead ++ clock_text w.clock)
+      says_of None (Some (clock_kept w.lead w.clock)) w.tail (time_text_text w) (lead_text w.lead ++ clock_text w.clock)
       (sym (append_assoc (lead_text w.lead) (clock_text w.clock) (tails.tail_text w.tail)))
       ∙ rw (time-shown w.clock.time, utc-shown w.clock.utc ok.clock.utc)
 
-other_told : (t : tails.TailTree) (p : List ℕ) → other_calendar (tails.tail_kept t) (p ++ tails.tail_text t) ≡ other_calendar_said t.notes
+other_told : (t : tails.TailTree) (p : List ℕ) → other_calendar (tails.tail_kept t).notes.calendar (p ++ tails.tail_text t) ≡ other_calendar_said t.notes
 unfolding other_calendar
-other_told t p = rw ((notes-told t.notes).found, calendar_part_told t p)
+other_told t p = rw (found, calendar_part_told t p)
+  where
+    is_map : {A B : Type 0} (f : A → B) (o : Option A) → is_some (option_map f o) ≡ is_some o
+    is_map f None = refl
+    is_map f (Some x) = refl
 
-partial_says_lem : (d : DatePart) (t : tails.TailTree) (p : List ℕ)
-    → said_by (p ++ tails.tail_text t) (shown (length (p ++ tails.tail_text t)) d no_clock (tails.tail_kept t))
-    ≡ record { date = d; time = clock.Absent; offset = offset.Absent; zone = zone_says t.zone; calendar = calendar_says t.notes }
-partial_says_lem d t p = says_of d no_clock t (p ++ tails.tail_text t) p refl
+    found : is_some (tails.tail_kept t).notes.calendar ≡ is_some (tails.first_calendar t.notes)
+    found = sym (is_map _ (tails.tail_kept t).notes.calendar) ∙ ap is_some (notes-told t.notes).calendar ∙ is_map _ (tails.first_calendar t.notes)
 
-module _ (w : YearMonthTextTree) (ok : YearMonthTextOk w) where
-  pub year_month_refusal : verdict (year_month_faults (year_month_text_kept w) (year_month_text_text w)) ≡ partial_refusal (year_month_says w.date) w.tail
-  unfolding year_month_faults partial_refusal
-  year_month_refusal =
-      let t = notes-told w.tail.notes in
-      rw (year_month_text_exact.accepts w ok, t.unknown, other_told w.tail (dates.year_month_text w.date), t.clash)
+-- a year-month or a month-day text, of the date that it stands for: p is the text before its tail
+module _ (d : Date) (t : tails.TailTree) (p : List ℕ) where
+  pub partial_refusal_lem : verdict (faults_of (other_calendar (tails.tail_kept t).notes.calendar (p ++ tails.tail_text t)) (parts (Some d) None t)) ≡ partial_refusal d t
+  unfolding faults_of partial_refusal
+  partial_refusal_lem =
+      let n = notes-told t.notes in
+      rw (n.unknown, other_told t p, n.clash)
 
-  pub year_month_says_lem : said_by (year_month_text_text w) (shown (length (year_month_text_text w)) (shown_date (dates.year_month_kept w.date)) no_clock (tails.tail_kept w.tail))
-      ≡ partial_says (year_month_says w.date) w.tail
+  pub partial_says_lem : said_by (p ++ tails.tail_text t) (shown (length (p ++ tails.tail_text t)) (parts (Some d) None t)) ≡ partial_says d t
   unfolding partial_says
-  year_month_says_lem = partial_says_lem _ w.tail (dates.year_month_text w.date)
-
-module _ (w : MonthDayTextTree) (ok : MonthDayTextOk w) where
-  pub month_day_refusal : verdict (month_day_faults (month_day_text_kept w) (month_day_text_text w)) ≡ partial_refusal (month_day_says w.day) w.tail
-  unfolding month_day_faults partial_refusal
-  month_day_refusal =
-      let t = notes-told w.tail.notes in
-      rw (month_day_text_exact.accepts w ok, t.unknown, other_told w.tail (dates.month_day_text w.day), t.clash)
-
-  pub month_day_says_lem : said_by (month_day_text_text w) (shown (length (month_day_text_text w)) (shown_month_day (dates.month_day_kept w.day)) no_clock (tails.tail_kept w.tail))
-      ≡ partial_says (month_day_says w.day) w.tail
-  unfolding partial_says
-  month_day_says_lem = partial_says_lem _ w.tail (dates.month_day_text w.day)
+  partial_says_lem = says_of (Some d) None t (p ++ tails.tail_text t) p refl
 
 -- ---- a text that is not of the grammar
-pub outside : (f : Faults) → f.grammar ≡ true → verdict f ≡ 6
-unfolding verdict
-outside f e = rw e
+pub outside : {W : Type 0} (read : W → Reading) → read_by read None ≡ Err BadText
+outside read = refl

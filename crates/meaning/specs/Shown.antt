@@ -1,22 +1,18 @@
 -- What is read of a text: the parts that it shows. Assumes nothing: these are definitions.
-use Rattle.std.specs.Prelude.{ℕ, ◌-◌, ◌<◌, Bool, cond, ltb, ℤ, pos, neg_ℤ}
-use Rattle.record.specs.declared.stamp.DatePart.{DatePart}
-use Rattle.record.specs.declared.stamp.DatePart.TheVariants as part
-use Rattle.record.specs.declared.shown.ClockPart.{ClockPart}
-use Rattle.record.specs.declared.shown.ClockPart.TheVariants as clock
+use Rattle.std.specs.Prelude.{ℕ, ◌-◌, ◌<◌, Bool, cond, ltb, ℤ, pos, neg_ℤ, option_map, option_and_then}
+use Rattle.record.specs.declared.stamp.Date.{Date}
+use Rattle.record.specs.declared.stamp.Clock.{Clock}
 use Rattle.record.specs.declared.shown.ShownOffset.{ShownOffset}
 use Rattle.record.specs.declared.shown.ShownOffset.TheVariants as offset
-use Rattle.record.specs.declared.shown.NamePart.{NamePart}
-use Rattle.record.specs.declared.shown.NamePart.TheVariants as name
+use Rattle.record.specs.declared.shown.MarkedName.{MarkedName}
 use Rattle.record.specs.declared.shown.Shown.{Shown}
 use Rattle.date_syntax.specs.declared.DateRead.{DateRead}
 use Rattle.date_syntax.specs.declared.MonthDayRead.{MonthDayRead}
 use Rattle.time_syntax.specs.declared.TimeRead.{TimeRead}
 use Rattle.time_syntax.specs.declared.UtcRead.{UtcRead}
-use Rattle.tail_syntax.specs.declared.zone.ZoneRead.{ZoneRead}
-use Rattle.tail_syntax.specs.declared.notes.Notes.{Notes}
-use Rattle.tail_syntax.specs.declared.tail.TailRead.{TailRead}
-use Rattle.grammar.specs.declared.ClockRead.{ClockRead}
+use Rattle.time_syntax.specs.Read.{second_in, fraction_in, nanos_in}
+use Rattle.tail_syntax.specs.declared.bracket.NameRead.{NameRead}
+use Rattle.meaning.specs.declared.Parts.{Parts}
 
 -- a year from its sign and its number
 abbrev pub signed_year : Bool → ℕ → ℤ
@@ -24,49 +20,41 @@ signed_year negative year = cond negative (neg_ℤ (pos year)) (pos year)
 
 -- the years of the grammar have at most six digits
 abbrev pub Small : DateRead → Type 0
-Small (DateRead.Is s y w m d) = y < 1000000
-Small DateRead.Bad = Unit {0}
+Small d = d.year < 1000000
 
-abbrev pub shown_date : DateRead → DatePart
-shown_date (DateRead.Is s y w m d) = part.Is (record { year = signed_year s y; month = m; day = d })
-shown_date DateRead.Bad = part.Absent
+abbrev pub shown_date : DateRead → Date
+shown_date d = record { year = signed_year d.negative d.year; month = d.month; day = d.day }
 
 -- a month-day text has the year 1972
-abbrev pub shown_month_day : MonthDayRead → DatePart
-shown_month_day (MonthDayRead.Is s m d) = part.Is (record { year = pos 1972; month = m; day = d })
-shown_month_day MonthDayRead.Bad = part.Absent
+abbrev pub shown_month_day : MonthDayRead → Date
+shown_month_day d = record { year = pos 1972; month = d.month; day = d.day }
 
 -- second 60 is read as 59
 abbrev pub second : ℕ → ℕ
 second s = cond (ltb s 60) s 59
 
-abbrev pub shown_time : TimeRead → ClockPart
-shown_time (TimeRead.Is h m t s p v n) = clock.Is (record { hour = h; minute = m; second = second s; nanosecond = v })
-shown_time TimeRead.Bad = clock.Absent
+-- a time as it stands; absent seconds and fractions are 0
+abbrev pub clock_of : TimeRead → Clock
+clock_of t = record { hour = t.hour; minute = t.minute; second = second_in t.seconds; nanosecond = nanos_in (fraction_in t.seconds) }
+
+abbrev pub shown_time : TimeRead → Clock
+shown_time t = record { hour = t.hour; minute = t.minute; second = second (second_in t.seconds); nanosecond = nanos_in (fraction_in t.seconds) }
 
 abbrev pub shown_utc : UtcRead → ShownOffset
-shown_utc UtcRead.Absent = offset.Absent
 shown_utc (UtcRead.Z b) = offset.Z
-shown_utc (UtcRead.Offset o) =
-    offset.Is (record { negative = o.negative; clock = record { hour = o.hour; minute = o.minute; second = o.second; nanosecond = o.nanos } })
-shown_utc UtcRead.Bad = offset.Absent
+shown_utc (UtcRead.Offset o) = offset.At (record { negative = o.negative; clock = clock_of o.time })
 
 -- a name is a place and a length in the text read, of n bytes: `left` bytes from its start to the end
-abbrev pub shown_zone : ℕ → ZoneRead → NamePart
-shown_zone n (ZoneRead.Is c left size) = name.Is (record { name = record { at = n - left; len = size }; critical = c })
-shown_zone n ZoneRead.Absent = name.Absent
-
-abbrev pub shown_calendar : ℕ → Notes → NamePart
-shown_calendar n w = cond w.found (name.Is (record { name = record { at = n - w.left; len = w.size }; critical = w.critical })) name.Absent
-
-abbrev pub tail_zone : ℕ → TailRead → NamePart
-tail_zone n (TailRead.Is z w) = shown_zone n z
-tail_zone n TailRead.Bad = name.Absent
-
-abbrev pub tail_calendar : ℕ → TailRead → NamePart
-tail_calendar n (TailRead.Is z w) = shown_calendar n w
-tail_calendar n TailRead.Bad = name.Absent
+abbrev pub marked_name : ℕ → NameRead → MarkedName
+marked_name n m = record { name = record { at = n - m.left; len = m.size }; critical = m.critical }
 
 -- the whole, of a text of n bytes
-unfoldable pub shown : ℕ → DatePart → ClockRead → TailRead → Shown
-shown n d c t = record { date = d; time = shown_time c.time; offset = shown_utc c.utc; zone = tail_zone n t; calendar = tail_calendar n t }
+unfoldable pub shown : ℕ → Parts → Shown
+shown n p =
+    record {
+      date = p.date;
+      time = option_map (λ c. shown_time c.time) p.clock;
+      offset = option_map shown_utc (option_and_then (λ c. c.utc) p.clock);
+      zone = option_map (marked_name n) p.tail.zone;
+      calendar = option_map (marked_name n) p.tail.notes.calendar;
+    }

@@ -1,115 +1,75 @@
--- Which number a text of at most 1,024 bytes is refused with, 0 where it is not: refusals 6 to 11 in document 01's order, for each kind of text.
--- Assumes nothing: these are definitions.
-use Rattle.std.specs.Prelude.{ℕ, ◌+◌, Bool, false, cond, not, ◌&&◌, ◌||◌, List, map, ltb, leb, pos}
+-- Why a text of at most 1,024 bytes is refused: refusals 6 to 11 in document 01's order. Assumes nothing: these are definitions.
+use Rattle.std.specs.Prelude.{ℕ, Bool, false, cond, not, ◌&&◌, ◌||◌, List, map, ltb, Option, Some, None, is_some, Result, Ok, Err}
+use Rattle.std.specs.Char.{to_ascii_lowercase}
+use Rattle.std.specs.Result.{result_and}
 use Rattle.text.specs.Walk.{same_bytes}
+use Rattle.text.specs.declared.refusal.Refusal.{Refusal}
+use Rattle.text.specs.declared.refusal.Refusal.TheVariants.{BadText, UnknownCritical, LongFraction, OtherCalendar, CalendarClash, BadDay}
 use Rattle.names.specs.Name.{iso8601}
 use Rattle.iso.specs.Gregorian.{valid_date}
-use Rattle.date_syntax.specs.declared.DateRead.{DateRead}
-use Rattle.date_syntax.specs.declared.MonthDayRead.{MonthDayRead}
-use Rattle.time_syntax.specs.declared.TimeRead.{TimeRead}
+use Rattle.record.specs.declared.stamp.Date.{Date}
+use Rattle.record.specs.Refusals.{Reading}
 use Rattle.time_syntax.specs.declared.UtcRead.{UtcRead}
-use Rattle.tail_syntax.specs.declared.tail.TailRead.{TailRead}
-use Rattle.tail_syntax.specs.Read.{calendar_part_of}
+use Rattle.time_syntax.specs.Read.{fraction_in, digits_in}
+use Rattle.tail_syntax.specs.declared.bracket.NameRead.{NameRead}
+use Rattle.tail_syntax.specs.Read.{part_of}
 use Rattle.grammar.specs.declared.ClockRead.{ClockRead}
-use Rattle.grammar.specs.declared.StampRead.{StampRead}
-use Rattle.grammar.specs.declared.TimeTextRead.{TimeTextRead}
-use Rattle.grammar.specs.declared.YearMonthRead.{YearMonthRead}
-use Rattle.grammar.specs.declared.MonthDayTextRead.{MonthDayTextRead}
-use Rattle.grammar.specs.Read.{stamp_good, time_text_good, year_month_good, month_day_text_good}
 use Rattle.meaning.specs.declared.Faults.{Faults}
-use Rattle.meaning.specs.Shown.{signed_year}
+use Rattle.meaning.specs.declared.Parts.{Parts}
+use Rattle.meaning.specs.Shown.{shown}
 
--- the order: not of the grammar, an unknown critical annotation, a long fraction, another calendar, a clash of calendars, a day not in its month
-unfoldable pub verdict : Faults → ℕ
+-- the order: an unknown critical annotation, a long fraction, another calendar, a clash of calendars, a day not in its month
+unfoldable pub verdict : Faults → Result (Unit {0}) Refusal
 verdict f =
-    cond f.grammar 6
-    (cond f.unknown 7 (cond f.fraction 8 (cond f.calendar 9 (cond f.clash 10 (cond f.day 11 0)))))
+    cond f.unknown (Err UnknownCritical)
+    (cond f.fraction (Err LongFraction) (cond f.calendar (Err OtherCalendar) (cond f.clash (Err CalendarClash) (cond f.day (Err BadDay) (Ok tt)))))
+
+-- before all of them: a text that is not of the grammar, of which nothing was read
+abbrev pub read_by : {W : Type 0} → (W → Reading) → Option W → Reading
+read_by read None = Err BadText
+read_by read (Some w) = read w
 
 -- ---- each fault
-abbrev pub unknown_in : TailRead → Bool
-unknown_in (TailRead.Is z w) = w.unknown
-unknown_in TailRead.Bad = false
-
-abbrev pub clash_in : TailRead → Bool
-clash_in (TailRead.Is z w) = w.clash
-clash_in TailRead.Bad = false
-
-abbrev pub calendar_in : TailRead → Bool
-calendar_in (TailRead.Is z w) = w.found
-calendar_in TailRead.Bad = false
 
 -- more than nine digits, in a time or in an offset
-abbrev pub time_digits : TimeRead → ℕ
-time_digits (TimeRead.Is h m t s p v n) = n
-time_digits TimeRead.Bad = 0
-
 abbrev pub utc_digits : UtcRead → ℕ
-utc_digits UtcRead.Absent = 0
 utc_digits (UtcRead.Z b) = 0
-utc_digits (UtcRead.Offset o) = o.digits
-utc_digits UtcRead.Bad = 0
+utc_digits (UtcRead.Offset o) = digits_in (fraction_in o.time.seconds)
 
-unfoldable pub long_fraction : ClockRead → Bool
-long_fraction c = ltb 9 (time_digits c.time) || ltb 9 (utc_digits c.utc)
+abbrev pub utc_long : Option UtcRead → Bool
+utc_long None = false
+utc_long (Some u) = ltb 9 (utc_digits u)
 
--- ASCII case ignored: a letter of upper case as the lower
-abbrev pub lower : ℕ → ℕ
-lower b = cond (leb 65 b && leb b 90) (b + 32) b
+abbrev pub clock_long : ClockRead → Bool
+clock_long c = ltb 9 (digits_in (fraction_in c.time.seconds)) || utc_long c.utc
 
--- the first `u-ca` is another calendar than iso8601
-unfoldable pub other_calendar : TailRead → List ℕ → Bool
-other_calendar t l = calendar_in t && not (same_bytes (map lower (calendar_part_of t l)) iso8601)
+abbrev pub long_fraction : Option ClockRead → Bool
+long_fraction None = false
+long_fraction (Some c) = clock_long c
 
--- the day is not in its month; a month-day is judged in 1972
-abbrev pub late_day : DateRead → Bool
-late_day (DateRead.Is s y w m d) = not (valid_date (signed_year s y) m d)
-late_day DateRead.Bad = false
+-- there is a `u-ca`, and the first is another calendar than iso8601, ASCII case ignored
+unfoldable pub other_calendar : Option NameRead → List ℕ → Bool
+other_calendar calendar l = is_some calendar && not (same_bytes (map to_ascii_lowercase (part_of calendar l)) iso8601)
 
-abbrev pub late_month_day : MonthDayRead → Bool
-late_month_day (MonthDayRead.Is s m d) = not (valid_date (pos 1972) m d)
-late_month_day MonthDayRead.Bad = false
+-- the day is not in its month
+abbrev pub late_date : Date → Bool
+late_date d = not (valid_date d.year d.month d.day)
 
--- ---- the faults of each kind of text l
-unfoldable pub stamp_faults : StampRead → Faults
-stamp_faults w =
+abbrev pub late_part : Option Date → Bool
+late_part None = false
+late_part (Some d) = late_date d
+
+-- ---- all of them, of a text whose calendar is one that it may not have, or is none such
+unfoldable pub faults_of : Bool → Parts → Faults
+faults_of calendar p =
     record {
-      grammar = not (stamp_good w);
-      unknown = unknown_in w.tail;
-      fraction = long_fraction w.clock;
-      calendar = false;
-      clash = clash_in w.tail;
-      day = late_day w.date;
+      unknown = p.tail.notes.unknown;
+      fraction = long_fraction p.clock;
+      calendar = calendar;
+      clash = p.tail.notes.clash;
+      day = late_part p.date;
     }
 
-unfoldable pub time_faults : TimeTextRead → Faults
-time_faults w =
-    record {
-      grammar = not (time_text_good w);
-      unknown = unknown_in w.tail;
-      fraction = long_fraction w.clock;
-      calendar = false;
-      clash = clash_in w.tail;
-      day = false;
-    }
-
-unfoldable pub year_month_faults : YearMonthRead → List ℕ → Faults
-year_month_faults w l =
-    record {
-      grammar = not (year_month_good w);
-      unknown = unknown_in w.tail;
-      fraction = false;
-      calendar = other_calendar w.tail l;
-      clash = clash_in w.tail;
-      day = late_day w.date;
-    }
-
-unfoldable pub month_day_faults : MonthDayTextRead → List ℕ → Faults
-month_day_faults w l =
-    record {
-      grammar = not (month_day_text_good w);
-      unknown = unknown_in w.tail;
-      fraction = false;
-      calendar = other_calendar w.tail l;
-      clash = clash_in w.tail;
-      day = late_month_day w.day;
-    }
+-- what a text of n bytes is read as, of which these are the parts
+abbrev pub answer : Bool → ℕ → Parts → Reading
+answer calendar n p = result_and (verdict (faults_of calendar p)) (Ok (shown n p))

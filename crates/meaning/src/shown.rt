@@ -1,94 +1,62 @@
 // What is read of a text: the parts that it shows.
-ghost use Rattle.std.specs.Prelude.{◌≡◌, ◌-◌, ◌<◌};
-ghost use Rattle.meaning.specs.Shown.{signed_year, Small, shown_date, shown_month_day, second, shown_time, shown_utc, shown_zone, shown_calendar, tail_zone, tail_calendar, shown};
+ghost use Rattle.std.specs.Prelude.{◌≡◌};
+ghost use Rattle.meaning.specs.Shown.{Small, shown_date, shown_month_day, second, clock_of, shown_time, shown_utc, marked_name, shown};
 
+use super::Parts;
 use date_syntax::{DateRead, MonthDayRead};
-use grammar::ClockRead;
-use record::{
-    Clock, ClockPart, Date, DatePart, MarkedName, Name, NamePart, Shown, ShownOffset, SignedClock,
-};
-use tail_syntax::{Notes, TailRead, ZoneRead};
+use record::{Clock, Date, MarkedName, Name, Shown, ShownOffset, SignedClock};
+use tail_syntax::NameRead;
 use time_syntax::{TimeRead, UtcRead};
 
-// A year from its sign and its number.
-pub fn signed_year(negative: bool, year: u32) -> i32
-    requires { year < 1000000 }
-    ensures { result ≡ signed_year negative year }
-{
-    let n = year as i32;
-    if negative { -n } else { n }
-}
-
-pub fn shown_date(d: DateRead) -> DatePart
+// A date of a text has at most six digits of its year.
+pub fn shown_date(d: DateRead) -> Date
     requires { Small d }
     ensures { result ≡ shown_date d }
 {
-    match d {
-        DateRead::Is {
-            negative,
-            year,
-            wide: _,
-            month,
-            day,
-        } => {
-            let y = signed_year(negative, year);
-            DatePart::Is(Date {
-                year: y,
-                month,
-                day,
-            })
-        }
-        DateRead::Bad => DatePart::Absent,
+    let year = d.year as i32;
+    Date {
+        year: if d.negative { -year } else { year },
+        month: d.month,
+        day: d.day,
     }
 }
 
 // A month-day text has the year 1972.
-pub fn shown_month_day(d: MonthDayRead) -> DatePart
+pub fn shown_month_day(d: MonthDayRead) -> Date
     ensures { result ≡ shown_month_day d }
 {
-    match d {
-        MonthDayRead::Is {
-            dashes: _,
-            month,
-            day,
-        } => DatePart::Is(Date {
-            year: 1972,
-            month,
-            day,
-        }),
-        MonthDayRead::Bad => DatePart::Absent,
+    Date {
+        year: 1972,
+        month: d.month,
+        day: d.day,
     }
 }
 
 // Second 60 is read as 59.
-pub fn second_of(s: u8) -> u8
+fn second_of(s: u8) -> u8
     ensures { result ≡ second s }
 {
     if s < 60 { s } else { 59 }
 }
 
-fn shown_time(t: TimeRead) -> ClockPart
+// A time as it stands; absent seconds and fractions are 0.
+fn clock_of(t: TimeRead) -> Clock
+    ensures { result ≡ clock_of t }
+{
+    Clock {
+        hour: t.hour,
+        minute: t.minute,
+        second: t.second(),
+        nanosecond: t.nanos(),
+    }
+}
+
+fn shown_time(t: TimeRead) -> Clock
     ensures { result ≡ shown_time t }
 {
-    match t {
-        TimeRead::Is {
-            hour,
-            minute,
-            seconds: _,
-            second,
-            point: _,
-            nanos,
-            digits: _,
-        } => {
-            let s = second_of(second);
-            ClockPart::Is(Clock {
-                hour,
-                minute,
-                second: s,
-                nanosecond: nanos,
-            })
-        }
-        TimeRead::Bad => ClockPart::Absent,
+    Clock {
+        second: second_of(t.second()),
+        ..clock_of(t)
     }
 }
 
@@ -96,93 +64,39 @@ fn shown_utc(u: UtcRead) -> ShownOffset
     ensures { result ≡ shown_utc u }
 {
     match u {
-        UtcRead::Absent => ShownOffset::Absent,
         UtcRead::Z(_) => ShownOffset::Z,
-        UtcRead::Offset(o) => ShownOffset::Is(SignedClock {
+        UtcRead::Offset(o) => ShownOffset::At(SignedClock {
             negative: o.negative,
-            clock: Clock {
-                hour: o.hour,
-                minute: o.minute,
-                second: o.second,
-                nanosecond: o.nanos,
-            },
+            clock: clock_of(o.time),
         }),
-        UtcRead::Bad => ShownOffset::Absent,
     }
 }
 
-// How far from the start of n bytes a place is that has `left` bytes to the end; 0 where there are not so many.
-fn place_of(n: usize, left: usize) -> usize
-    ensures { result ≡ n - left }
+// A name as a place and a length in the text of n bytes that it was read of.
+fn marked_name(n: usize, name: NameRead) -> MarkedName
+    ensures { result ≡ marked_name n name }
 {
-    if left <= n { n - left } else { 0 }
+    MarkedName {
+        name: Name {
+            at: n.saturating_sub(name.left),
+            len: name.size,
+        },
+        critical: name.critical,
+    }
 }
 
-fn shown_zone(n: usize, z: ZoneRead) -> NamePart
-    ensures { result ≡ shown_zone n z }
-{
-    match z {
-        ZoneRead::Is {
-            critical,
-            left,
-            size,
-        } => {
-            let at = place_of(n, left);
-            NamePart::Is(MarkedName {
-                name: Name { at, len: size },
-                critical,
-            })
+impl Parts {
+    // The whole, of a text of n bytes.
+    #[tactic(auto, unfolding(crate::specs::Shown::shown))]
+    pub fn shown(self, n: usize) -> Shown
+        ensures { result ≡ shown n self }
+    {
+        Shown {
+            date: self.date,
+            time: self.clock.map(|c| shown_time(c.time)),
+            offset: self.clock.and_then(|c| c.utc).map(shown_utc),
+            zone: self.tail.zone.map(|z| marked_name(n, z)),
+            calendar: self.tail.notes.calendar.map(|c| marked_name(n, c)),
         }
-        ZoneRead::Absent => NamePart::Absent,
-    }
-}
-
-fn shown_calendar(n: usize, w: Notes) -> NamePart
-    ensures { result ≡ shown_calendar n w }
-{
-    let at = place_of(n, w.left);
-    if w.found {
-        return NamePart::Is(MarkedName {
-            name: Name { at, len: w.size },
-            critical: w.critical,
-        });
-    }
-    NamePart::Absent
-}
-
-fn tail_zone(n: usize, t: TailRead) -> NamePart
-    ensures { result ≡ tail_zone n t }
-{
-    match t {
-        TailRead::Is { zone, notes: _ } => shown_zone(n, zone),
-        TailRead::Bad => NamePart::Absent,
-    }
-}
-
-fn tail_calendar(n: usize, t: TailRead) -> NamePart
-    ensures { result ≡ tail_calendar n t }
-{
-    match t {
-        TailRead::Is { zone: _, notes } => shown_calendar(n, notes),
-        TailRead::Bad => NamePart::Absent,
-    }
-}
-
-// The whole, of a text of n bytes.
-pub fn shown_of(n: usize, date: DatePart, c: ClockRead, t: TailRead) -> Shown
-    ensures { result ≡ shown n date c t }
-{
-    let read = c.time;
-    let utc = c.utc;
-    let time = shown_time(read);
-    let offset = shown_utc(utc);
-    let zone = tail_zone(n, t);
-    let calendar = tail_calendar(n, t);
-    Shown {
-        date,
-        time,
-        offset,
-        zone,
-        calendar,
     }
 }

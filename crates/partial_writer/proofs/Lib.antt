@@ -1,3 +1,2 @@
--- The laws that several proofs cite, and the examples.
-mod PartialLaws
+-- The examples.
 mod Examples

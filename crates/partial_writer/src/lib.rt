@@ -2,24 +2,23 @@
 // not `iso8601`.
 #![tactic(auto)]
 
-ghost use Rattle.std.specs.Prelude.{true, ◌≡◌, ◌<◌};
-ghost use Rattle.text.specs.Put.{Room, Put, Count};
+ghost use Rattle.std.specs.Prelude.{true, ◌≡◌};
+ghost use Rattle.text.specs.Put.{Count};
+ghost use Rattle.text.specs.Out.{Fits, Puts};
 ghost use Rattle.text.specs.Answer.{length_of, Wrote};
-ghost use Rattle.date_writer.specs.Date.{date_ok};
 ghost use Rattle.tail_writer.specs.Calendar.{calendar_ok};
 ghost use Rattle.partial_writer.specs.Partial.{whole_date, whole, leading_year, trailing_day, month_day_text, year_month_text, month_day_judged, year_month_judged};
 
 use record::{Calendar, Date, DisplayCalendar};
-use text::{LengthAnswer, WriteAnswer};
+use text::Refusal;
+use text::out::Out;
 
 fn whole_date(show: DisplayCalendar, iso: bool) -> bool
     ensures { result ≡ whole_date show iso }
 {
     match show {
-        DisplayCalendar::Auto => !iso,
-        DisplayCalendar::Always => true,
-        DisplayCalendar::Never => !iso,
-        DisplayCalendar::Critical => true,
+        DisplayCalendar::Always | DisplayCalendar::Critical => true,
+        DisplayCalendar::Auto | DisplayCalendar::Never => !iso,
     }
 }
 
@@ -27,74 +26,70 @@ fn whole_date(show: DisplayCalendar, iso: bool) -> bool
 fn is_whole(lent: &[u8], c: Calendar) -> bool
     ensures { result ≡ whole lent.now c }
 {
-    let show = c.show;
-    whole_date(show, tail_writer::calendar::is_iso(lent, c))
+    whole_date(c.show, tail_writer::calendar::is_iso(lent, c))
 }
 
-fn put_leading_year(buf: &mut [u8], at: usize, all: bool, year: i32) -> usize
-    requires { Room buf.old at (leading_year all year) }
-    ensures { Put buf.old at (leading_year all year) buf.new result }
+#[tactic(auto, using(text::proofs::OutLaws::stepwise, date_writer::proofs::DateLaws::years))]
+fn put_leading_year(out: &mut Out<'_>, all: bool, year: i32)
+    requires { Fits out.old (leading_year all year) }
+    ensures { Puts out.old (leading_year all year) out.new }
 {
     if all {
-        let m = date_writer::date::put_year(buf, at, year);
-        return text::put::put_byte(buf, m, b'-');
+        date_writer::date::put_year(out, year);
+        out.byte(b'-');
     }
-    at
 }
 
-fn put_trailing_day(buf: &mut [u8], at: usize, all: bool, day: u8) -> usize
-    requires room { Room buf.old at (trailing_day all day) }
-    requires day_bound { day < 100 }
-    ensures { Put buf.old at (trailing_day all day) buf.new result }
+fn put_trailing_day(out: &mut Out<'_>, all: bool, day: u8)
+    requires { Fits out.old (trailing_day all day) }
+    ensures { Puts out.old (trailing_day all day) out.new }
 {
     if all {
-        return date_writer::date::put_dashed(buf, at, day);
+        date_writer::date::put_dashed(out, day);
     }
-    at
 }
 
-fn put_month_day(buf: &mut [u8], at: usize, lent: &[u8], d: Date, c: Calendar) -> usize
-    requires room { Room buf.old at (month_day_text lent.now d c) }
-    requires d_value { date_ok d ≡ true }
-    ensures { Put buf.old at (month_day_text lent.now d c) buf.new result }
+#[tactic(auto, using(text::proofs::OutLaws::stepwise, date_writer::proofs::DateLaws::years), unfolding(crate::specs::Partial::month_day_text))]
+fn put_month_day(out: &mut Out<'_>, lent: &[u8], d: Date, c: Calendar)
+    requires { Fits out.old (month_day_text lent.now d c) }
+    ensures { Puts out.old (month_day_text lent.now d c) out.new }
 {
     let all = is_whole(lent, c);
-    let m = put_leading_year(buf, at, all, d.year);
-    let n = text::put::write_padded_u8(buf, m, d.month);
-    let o = date_writer::date::put_dashed(buf, n, d.day);
-    tail_writer::calendar::put_calendar(buf, o, lent, c)
+    put_leading_year(out, all, d.year);
+    out.pair(d.month as u32);
+    date_writer::date::put_dashed(out, d.day);
+    tail_writer::calendar::put_calendar(out, lent, c);
 }
 
-fn put_year_month(buf: &mut [u8], at: usize, lent: &[u8], d: Date, c: Calendar) -> usize
-    requires room { Room buf.old at (year_month_text lent.now d c) }
-    requires d_value { date_ok d ≡ true }
-    ensures { Put buf.old at (year_month_text lent.now d c) buf.new result }
+#[tactic(auto, using(text::proofs::OutLaws::stepwise, date_writer::proofs::DateLaws::years), unfolding(crate::specs::Partial::year_month_text))]
+fn put_year_month(out: &mut Out<'_>, lent: &[u8], d: Date, c: Calendar)
+    requires { Fits out.old (year_month_text lent.now d c) }
+    ensures { Puts out.old (year_month_text lent.now d c) out.new }
 {
     let all = is_whole(lent, c);
-    let m = date_writer::date::put_year(buf, at, d.year);
-    let n = date_writer::date::put_dashed(buf, m, d.month);
-    let o = put_trailing_day(buf, n, all, d.day);
-    tail_writer::calendar::put_calendar(buf, o, lent, c)
+    date_writer::date::put_year(out, d.year);
+    date_writer::date::put_dashed(out, d.month);
+    put_trailing_day(out, all, d.day);
+    tail_writer::calendar::put_calendar(out, lent, c);
 }
 
 fn leading_year_bytes(all: bool, year: i32) -> usize
     ensures { Count (leading_year all year) 8 result }
 {
     if all {
-        return date_writer::date::year_bytes(year) + 1;
+        date_writer::date::year_bytes(year) + 1
+    } else {
+        0
     }
-    0
 }
 
 fn trailing_day_bytes(all: bool, day: u8) -> usize
     ensures { Count (trailing_day all day) 3 result }
 {
-    if all {
-        return 3;
-    }
-    0
+    if all { 3 } else { 0 }
 }
 
+#[tactic(auto, using(text::proofs::OutLaws::stepwise, date_writer::proofs::DateLaws::years), unfolding(crate::specs::Partial::month_day_text))]
 fn month_day_bytes(lent: &[u8], d: Date, c: Calendar) -> usize
     requires { calendar_ok lent.now c ≡ true }
     ensures { Count (month_day_text lent.now d c) 85 result }
@@ -103,6 +98,7 @@ fn month_day_bytes(lent: &[u8], d: Date, c: Calendar) -> usize
     leading_year_bytes(all, d.year) + 5 + tail_writer::calendar::calendar_bytes(lent, c)
 }
 
+#[tactic(auto, using(text::proofs::OutLaws::stepwise, date_writer::proofs::DateLaws::years), unfolding(crate::specs::Partial::year_month_text))]
 fn year_month_bytes(lent: &[u8], d: Date, c: Calendar) -> usize
     requires { calendar_ok lent.now c ≡ true }
     ensures { Count (year_month_text lent.now d c) 85 result }
@@ -115,53 +111,49 @@ fn year_month_bytes(lent: &[u8], d: Date, c: Calendar) -> usize
 }
 
 // The exact length of a month-day's text; 2 for a date out of range, 3 for what is no calendar name.
-pub fn month_day_length(lent: &[u8], d: Date, c: Calendar) -> LengthAnswer
+#[tactic(auto, unfolding(crate::specs::Partial::month_day_judged))]
+pub fn month_day_length(lent: &[u8], d: Date, c: Calendar) -> Result<usize, Refusal>
     ensures { result ≡ length_of (month_day_judged lent.now d c) }
 {
-    if date_writer::date::date_ok(d) {
-        if tail_writer::calendar::calendar_ok(lent, c) {
-            return LengthAnswer::Length(month_day_bytes(lent, d, c));
-        }
-        return LengthAnswer::Refused(text::refusal::BAD_NAME);
+    if !date_writer::date::date_ok(d) {
+        Err(Refusal::BadField)
+    } else if !tail_writer::calendar::calendar_ok(lent, c) {
+        Err(Refusal::BadName)
+    } else {
+        Ok(month_day_bytes(lent, d, c))
     }
-    LengthAnswer::Refused(text::refusal::BAD_FIELD)
 }
 
 // The exact length of a year-month's text; 2 for a date out of range, 3 for what is no calendar name.
-pub fn year_month_length(lent: &[u8], d: Date, c: Calendar) -> LengthAnswer
+#[tactic(auto, unfolding(crate::specs::Partial::year_month_judged))]
+pub fn year_month_length(lent: &[u8], d: Date, c: Calendar) -> Result<usize, Refusal>
     ensures { result ≡ length_of (year_month_judged lent.now d c) }
 {
-    if date_writer::date::date_ok(d) {
-        if tail_writer::calendar::calendar_ok(lent, c) {
-            return LengthAnswer::Length(year_month_bytes(lent, d, c));
-        }
-        return LengthAnswer::Refused(text::refusal::BAD_NAME);
+    if !date_writer::date::date_ok(d) {
+        Err(Refusal::BadField)
+    } else if !tail_writer::calendar::calendar_ok(lent, c) {
+        Err(Refusal::BadName)
+    } else {
+        Ok(year_month_bytes(lent, d, c))
     }
-    LengthAnswer::Refused(text::refusal::BAD_FIELD)
 }
 
 // Writes a month-day's text to the front of a buffer; refusals 2, 3, then 1.
-pub fn write_month_day(buf: &mut [u8], lent: &[u8], d: Date, c: Calendar) -> WriteAnswer
+#[tactic(auto, using(text::proofs::OutLaws::at_front), unfolding(crate::specs::Partial::month_day_judged))]
+pub fn write_month_day(buf: &mut [u8], lent: &[u8], d: Date, c: Calendar) -> Result<usize, Refusal>
     ensures { Wrote (month_day_judged lent.now d c) buf.old buf.new result }
 {
-    match text::fit(month_day_length(lent, d, c), buf.len()) {
-        WriteAnswer::Refused(k) => WriteAnswer::Refused(k),
-        WriteAnswer::Written(n) => {
-            put_month_day(buf, 0, lent, d, c);
-            WriteAnswer::Written(n)
-        }
-    }
+    let n = text::fit(month_day_length(lent, d, c), buf.len())?;
+    put_month_day(&mut Out { buf, at: 0 }, lent, d, c);
+    Ok(n)
 }
 
 // Writes a year-month's text to the front of a buffer; refusals 2, 3, then 1.
-pub fn write_year_month(buf: &mut [u8], lent: &[u8], d: Date, c: Calendar) -> WriteAnswer
+#[tactic(auto, using(text::proofs::OutLaws::at_front), unfolding(crate::specs::Partial::year_month_judged))]
+pub fn write_year_month(buf: &mut [u8], lent: &[u8], d: Date, c: Calendar) -> Result<usize, Refusal>
     ensures { Wrote (year_month_judged lent.now d c) buf.old buf.new result }
 {
-    match text::fit(year_month_length(lent, d, c), buf.len()) {
-        WriteAnswer::Refused(k) => WriteAnswer::Refused(k),
-        WriteAnswer::Written(n) => {
-            put_year_month(buf, 0, lent, d, c);
-            WriteAnswer::Written(n)
-        }
-    }
+    let n = text::fit(year_month_length(lent, d, c), buf.len())?;
+    put_year_month(&mut Out { buf, at: 0 }, lent, d, c);
+    Ok(n)
 }

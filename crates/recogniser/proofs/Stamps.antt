@@ -13,25 +13,20 @@ use lib.Dec.{leb, eqb}
 use lib.IntN.{nat_abs}
 use lib.ListN.{length, take, drop, length-append}
 use lib.Seq.{take-append_seam, drop-append_seam, take-length}
+use Rattle.std.specs.Prelude.{Option, Some, None, is_some}
 use Rattle.text.proofs.Answers.{both}
 use Rattle.iso.specs.Gregorian.{valid_date}
-use Rattle.record.specs.declared.stamp.DatePart.TheVariants as date
+use Rattle.record.specs.declared.stamp.Calendar.{Calendar}
+use Rattle.record.specs.declared.stamp.Offset.{Offset}
+use Rattle.record.specs.declared.stamp.Zone.{Zone}
 use Rattle.record.specs.declared.stamp.Precision.{Precision}
 use Rattle.record.specs.declared.stamp.Precision.TheVariants.{Minute, Digit}
 use Rattle.record.specs.declared.stamp.Time.{Time}
-use Rattle.record.specs.declared.stamp.TimePart.{TimePart}
-use Rattle.record.specs.declared.stamp.TimePart.TheVariants as time
 use Rattle.record.specs.declared.stamp.Sign.TheVariants.{Negative, Positive}
 use Rattle.record.specs.declared.stamp.UtcOffset.TheVariants as utc
 use Rattle.record.specs.declared.stamp.DisplayOffset.TheVariants as display
-use Rattle.record.specs.declared.stamp.OffsetPart.{OffsetPart}
-use Rattle.record.specs.declared.stamp.OffsetPart.TheVariants as part
 use Rattle.record.specs.declared.stamp.DisplayTimeZone.TheVariants as zone-show
-use Rattle.record.specs.declared.stamp.ZonePart.{ZonePart}
-use Rattle.record.specs.declared.stamp.ZonePart.TheVariants as zone
 use Rattle.record.specs.declared.stamp.DisplayCalendar.TheVariants as calendar-show
-use Rattle.record.specs.declared.stamp.CalendarPart.{CalendarPart}
-use Rattle.record.specs.declared.stamp.CalendarPart.TheVariants as calendar
 use Rattle.record.specs.declared.stamp.Stamp.{Stamp}
 use Rattle.record.specs.Separators.{time_separators, offset_separators, separators_on}
 use Rattle.names.proofs.Exact.{zone_reads, calendar_reads, zone_name_exact, calendar_name_exact}
@@ -41,9 +36,9 @@ use Rattle.time_writer.specs.Time.{clock_ok, time_ok}
 use Rattle.time_writer.specs.Offset.{offset_ok}
 use Rattle.tail_writer.specs.Zone.{zone_mark, zone_ok}
 use Rattle.tail_writer.specs.Calendar.{is_iso, calendar_mark, calendar_ok}
-use Rattle.writer.specs.Stamp.{time_part_ok, offset_part_ok, fields_ok, zone_part_ok, calendar_part_ok, names_ok, has_time, shows_offset, parts_ok}
+use Rattle.writer.specs.Stamp.{part_ok, fields_ok, names_ok, shows_offset, parts_ok}
 use Rattle.date_syntax.specs.Syntax as dates
-use Rattle.time_syntax.specs.Read.{point_byte}
+use Rattle.time_syntax.specs.Read.{second_in}
 use Rattle.time_syntax.specs.Syntax as times
 use Rattle.time_syntax.proofs.NanoLaws.{nanos_digits}
 use Rattle.tail_syntax.specs.Syntax as tails
@@ -53,7 +48,6 @@ use Rattle.meaning.specs.Shown.{signed_year}
 use Rattle.meaning.specs.Trees.{date_says, fraction_of}
 use Rattle.round_trip.specs.Shown.{is_negative, Line}
 use Rattle.round_trip.specs.Canon.{year_tree, fraction_tree, secs_tree, time_tree, offset_tree, part_tree, zone_of, zone_tree, notes_of, notes_tree, canon}
-use Rattle.recogniser.specs.Plain.{plain_year}
 use Rattle.recogniser.proofs.Canonical.{join, FractionPlain}
 
 -- ---- the stamp of a tree: a fraction is shown by as many digits as it has, a calendar always
@@ -69,35 +63,35 @@ time_of t =
           record {
             hour = t.hour;
             minute = t.minute;
-            second = (times.secs_kept t.secs).second;
+            second = second_in (times.secs_kept t.secs);
             nanosecond = times.nanos_of (fraction_of t.secs);
           };
       precision = precision_of t.secs;
       include_sep = true;
     }
 
-abbrev offset_of : times.UtcTree → OffsetPart
-offset_of times.absent = part.Absent
-offset_of (times.zulu b) = part.Is (record { show = display.Auto; offset = utc.Z })
+abbrev offset_of : times.UtcTree → Option Offset
+offset_of times.absent = None
+offset_of (times.zulu b) = Some (record { show = display.Auto; offset = utc.Z })
 offset_of (times.offset negative t) =
-    part.Is (record { show = display.Auto; offset = utc.Offset (record { sign = cond negative Negative Positive; time = time_of t }) })
+    Some (record { show = display.Auto; offset = utc.Offset (record { sign = cond negative Negative Positive; time = time_of t }) })
 
-abbrev time_part_of : trees.PartTree → TimePart
-time_part_of trees.date_only = time.Absent
-time_part_of (trees.at b c) = time.Is (time_of c.time)
+abbrev time_part_of : trees.PartTree → Option Time
+time_part_of trees.date_only = None
+time_part_of (trees.at b c) = Some (time_of c.time)
 
-abbrev offset_part_of : trees.PartTree → OffsetPart
-offset_part_of trees.date_only = part.Absent
+abbrev offset_part_of : trees.PartTree → Option Offset
+offset_part_of trees.date_only = None
 offset_part_of (trees.at b c) = offset_of c.utc
 
-abbrev zone_part_of : tails.ZoneTree → ZonePart
-zone_part_of tails.no_zone = zone.Absent
-zone_part_of (tails.one_zone c n) = zone.Is (record { show = cond c zone-show.Critical zone-show.Auto; name = record { at = 0; len = length n } })
+abbrev zone_part_of : tails.ZoneTree → Option Zone
+zone_part_of tails.no_zone = None
+zone_part_of (tails.one_zone c n) = Some (record { show = cond c zone-show.Critical zone-show.Auto; name = record { at = 0; len = length n } })
 
-abbrev calendar_part_of : ℕ → List tails.NoteTree → CalendarPart
-calendar_part_of a [] = calendar.Absent
+abbrev calendar_part_of : ℕ → List tails.NoteTree → Option Calendar
+calendar_part_of a [] = None
 calendar_part_of a (n ∷ ns) =
-    calendar.Is (record { show = cond n.critical calendar-show.Critical calendar-show.Always; name = record { at = a; len = length n.value } })
+    Some (record { show = cond n.critical calendar-show.Critical calendar-show.Always; name = record { at = a; len = length n.value } })
 
 abbrev pub lent_of : tails.TailTree → List ℕ
 lent_of t = tails.zone_name_of t.zone ++ tails.first_value t.notes
@@ -105,7 +99,7 @@ lent_of t = tails.zone_name_of t.zone ++ tails.first_value t.notes
 abbrev pub stamp_of : trees.StampTree → Stamp
 stamp_of w =
     record {
-      date = date.Is (date_says w.date);
+      date = Some (date_says w.date);
       time = time_part_of w.part;
       offset = offset_part_of w.part;
       zone = zone_part_of w.tail.zone;
@@ -113,7 +107,7 @@ stamp_of w =
     }
 
 -- ---- the date
-year_back : (w s : Bool) (y : ℕ) → dates.YearForm w s y → plain_year s y w ≡ true → year_tree (signed_year s y) ≡ record { negative = s; year = y; wide = w }
+year_back : (w s : Bool) (y : ℕ) → dates.YearForm w s y → (not w || s || leb 10000 y) ≡ true → year_tree (signed_year s y) ≡ record { negative = s; year = y; wide = w }
 year_back false false y ok e = rw (lt-ltb y 10000 ok.1)
 year_back false true y ok e = absurd (false≢true (sym ok.0))
 year_back true false y ok e = rw (le-ltb y 10000 (leb-true 10000 y e))
@@ -130,42 +124,34 @@ year_small true true (suc n) ok = omega (arith, ok.0)
 -- ---- times: of the grammar, a second of at most 59, a fraction in the writer's form
 pub record TimePlain (t : times.TimeTree) : Type 0 where
   pub ok : times.TimeOk t
-  pub second : (times.secs_kept t.secs).second ≤ 59
+  pub second : second_in (times.secs_kept t.secs) ≤ 59
   pub fraction : FractionPlain t.secs
-
-point_of : (p : ℕ) → point_byte p ≡ true → (eqb p 0 || eqb p 46) ≡ true → p ≡ 46
-point_of p a b = go (eqb p 0) (eqb p 46) refl refl b
-  where
-    go : (x y : Bool) → eqb p 0 ≡ x → eqb p 46 ≡ y → (x || y) ≡ true → p ≡ 46
-    go x true e f b = eqb-true p 46 f
-    go true false e f b = let z : point_byte 0 ≡ true = rw (eqb-true p 0 e) at a in absurd (false≢true z)
-    go false false e f b = absurd (false≢true b)
 
 some-digits : (s : ℕ) (ds : List ℕ) → 0 < length ds → fraction_tree s ds ≡ times.part s 46 ds
 some-digits s [] h = absurd (omega arith)
 some-digits s (d ∷ ds) h = refl
 
 secs_back : (s : times.SecsTree) → times.SecsOk s → FractionPlain s
-    → secs_tree (precision_of s) (times.secs_kept s).second (times.nanos_of (fraction_of s)) ≡ s
+    → secs_tree (precision_of s) (second_in (times.secs_kept s)) (times.nanos_of (fraction_of s)) ≡ s
 secs_back times.none ok e = refl
 secs_back (times.whole s) ok e = refl
 secs_back (times.part s p ds) ok e =
-    let b = both (eqb p 0 || eqb p 46) (leb (length ds) 9) e in
+    let b = both (eqb p 46) (leb (length ds) 9) e in
     let f = (nanos_digits ds ok.3 (leb-true (length ds) 9 b.1)).1 in
-    ap (fraction_tree s) f ∙ some-digits s ds ok.2 ∙ ap (λ (q : ℕ). times.part s q ds) (sym (point_of p ok.1 b.0))
+    ap (fraction_tree s) f ∙ some-digits s ds ok.2 ∙ ap (λ (q : ℕ). times.part s q ds) (sym (eqb-true p 46 b.0))
 
 secs_nanos : (s : times.SecsTree) → times.SecsOk s → FractionPlain s → times.nanos_of (fraction_of s) ≤ 999999999
 unfolding times.nanos_of
 secs_nanos times.none ok e = omega arith
 secs_nanos (times.whole s) ok e = omega arith
 secs_nanos (times.part s p ds) ok e =
-    let b = both (eqb p 0 || eqb p 46) (leb (length ds) 9) e in
+    let b = both (eqb p 46) (leb (length ds) 9) e in
     omega (arith, (nanos_digits ds ok.3 (leb-true (length ds) 9 b.1)).0)
 
 secs_precision : (s : times.SecsTree) → FractionPlain s → precision_ok (precision_of s) ≡ true
 secs_precision times.none e = refl
 secs_precision (times.whole s) e = refl
-secs_precision (times.part s p ds) e = (both (eqb p 0 || eqb p 46) (leb (length ds) 9) e).1
+secs_precision (times.part s p ds) e = (both (eqb p 46) (leb (length ds) 9) e).1
 
 time_back : (t : times.TimeTree) → TimePlain t → time_tree (time_of t) ≡ t
 time_back t p = λ i. record { hour = t.hour; minute = t.minute; secs = secs_back t.secs p.ok.secs p.fraction i }
@@ -193,7 +179,7 @@ utc_back times.absent p = refl
 utc_back (times.zulu b) p = ap times.zulu (sym p)
 utc_back (times.offset negative t) p = rw (sign_back negative, time_back t p)
 
-utc_accepted : (u : times.UtcTree) → UtcPlain u → (offset_part_ok (offset_of u) ≡ true) × (offset_separators (offset_of u) ≡ true)
+utc_accepted : (u : times.UtcTree) → UtcPlain u → (part_ok offset_ok (offset_of u) ≡ true) × (offset_separators (offset_of u) ≡ true)
 unfolding offset_ok
 utc_accepted times.absent p = (refl, refl)
 utc_accepted (times.zulu b) p = (refl, refl)
@@ -214,9 +200,9 @@ shown_or_timed (times.zulu b) = refl
 shown_or_timed (times.offset negative t) = refl
 
 record PartAccepted (p : trees.PartTree) : Type 0 where
-  time : time_part_ok (time_part_of p) ≡ true
-  offset : offset_part_ok (offset_part_of p) ≡ true
-  timed : (not (shows_offset (offset_part_of p)) || has_time (time_part_of p)) ≡ true
+  time : part_ok time_ok (time_part_of p) ≡ true
+  offset : part_ok offset_ok (offset_part_of p) ≡ true
+  timed : (not (shows_offset (offset_part_of p)) || is_some (time_part_of p)) ≡ true
   separated : (time_separators (time_part_of p) && offset_separators (offset_part_of p)) ≡ true
 
 part_accepted : (p : trees.PartTree) → PartPlain p → PartAccepted p
@@ -238,7 +224,7 @@ zone_back (tails.one_zone c n) r = rw (take-append_seam n r) (go c)
     go true = refl
     go false = refl
 
-zone_accepted : (z : tails.ZoneTree) (r : List ℕ) → tails.ZoneOk z → ZonePlain z → zone_part_ok (tails.zone_name_of z ++ r) (zone_part_of z) ≡ true
+zone_accepted : (z : tails.ZoneTree) (r : List ℕ) → tails.ZoneOk z → ZonePlain z → part_ok (zone_ok (tails.zone_name_of z ++ r)) (zone_part_of z) ≡ true
 unfolding zone_ok
 zone_accepted tails.no_zone r ok p = refl
 zone_accepted (tails.one_zone c n) r ok p =
@@ -260,7 +246,7 @@ module _ (z : List ℕ) where
       go false e iso = λ i. record { critical = sym e i; key = sym (uca_key n.key u) i; value = n.value } ∷ []
 
   notes_accepted : (ns : List tails.NoteTree) → tails.NotesOk ns → Alone ns → length (tails.first_value ns) ≤ 64
-      → calendar_part_ok (z ++ tails.first_value ns) (calendar_part_of (length z) ns) ≡ true
+      → part_ok (calendar_ok (z ++ tails.first_value ns)) (calendar_part_of (length z) ns) ≡ true
   unfolding calendar_ok
   notes_accepted ns ok nothing h = refl
   notes_accepted ns ok (only n u) h =
@@ -270,7 +256,7 @@ module _ (z : List ℕ) where
 -- ---- the whole
 pub record PlainTree (w : trees.StampTree) : Type 0 where
   pub ok : trees.StampOk w
-  pub year : plain_year w.date.year.negative w.date.year.year w.date.year.wide ≡ true
+  pub year : (not w.date.year.wide || w.date.year.negative || leb 10000 w.date.year.year) ≡ true
   pub day : valid_date (signed_year w.date.year.negative w.date.year.year) w.date.month w.date.day ≡ true
   pub part : PartPlain w.part
   pub zone : ZonePlain w.tail.zone

@@ -4,12 +4,15 @@
 
 ghost use Rattle.std.specs.Prelude.{◌≡◌};
 ghost use Rattle.meaning.specs.Shown.{Small};
-ghost use Rattle.recogniser.specs.Plain.{plain_year, plain_date, plain_fraction, plain_time, plain_utc, plain_clock, plain_zone, plain_notes, plain_tail, plain};
+ghost use Rattle.recogniser.specs.Plain.{plain_date, plain_fraction, plain_time, plain_utc, plain_clock, plain_name, plain_notes, plain_tail, plain};
 ghost use Rattle.recogniser.specs.Recognised.{Recognised};
 
 use date_syntax::DateRead;
 use grammar::{ClockRead, StampRead};
-use tail_syntax::{Notes, TailRead, ZoneRead};
+use meaning::shown::shown_date;
+use meaning::verdict::late_date;
+use tail_syntax::{NameRead, Notes, Tail};
+use time_syntax::fraction::Fraction;
 use time_syntax::{TimeRead, UtcRead};
 
 // The most bytes of a stamp, and of a name.
@@ -18,126 +21,75 @@ const LONGEST_STAMP: usize = 190;
 const LONGEST_NAME: usize = 64;
 
 // A year of four digits where they suffice.
-fn plain_year(negative: bool, year: u32, wide: bool) -> bool
-    ensures { result ≡ plain_year negative year wide }
-{
-    !wide | negative | (10000 <= year)
-}
-
 fn plain_date(d: DateRead) -> bool
     ensures { result ≡ plain_date d }
 {
-    match d {
-        DateRead::Is {
-            negative,
-            year,
-            wide,
-            month: _,
-            day: _,
-        } => plain_year(negative, year, wide),
-        DateRead::Bad => false,
-    }
+    !d.wide | d.negative | (10000 <= d.year)
 }
 
-// No fraction, or `.` and at most nine digits.
-fn plain_fraction(point: u8, digits: usize) -> bool
-    ensures { result ≡ plain_fraction point digits }
+// A fraction with `.` and at most nine digits.
+fn plain_fraction(f: Fraction) -> bool
+    ensures { result ≡ plain_fraction f }
 {
-    ((point == 0) | (point == b'.')) & (digits <= 9)
+    (f.point == b'.') & (f.digits <= 9)
 }
 
 fn plain_time(t: TimeRead) -> bool
     ensures { result ≡ plain_time t }
 {
-    match t {
-        TimeRead::Is {
-            hour: _,
-            minute: _,
-            seconds: _,
-            second,
-            point,
-            nanos: _,
-            digits,
-        } => (second <= 59) & plain_fraction(point, digits),
-        TimeRead::Bad => false,
-    }
+    (t.second() <= 59) & t.fraction().is_none_or(plain_fraction)
 }
 
 fn plain_utc(u: UtcRead) -> bool
     ensures { result ≡ plain_utc u }
 {
     match u {
-        UtcRead::Absent => true,
         UtcRead::Z(b) => b == b'Z',
-        UtcRead::Offset(o) => plain_fraction(o.point, o.digits),
-        UtcRead::Bad => false,
+        UtcRead::Offset(o) => o.time.fraction().is_none_or(plain_fraction),
     }
 }
 
-// No time, or `T`, a time and how it stands to UTC.
-fn plain_clock(sep: u8, c: ClockRead) -> bool
-    ensures { result ≡ plain_clock sep c }
+// `T`, a time and how it stands to UTC.
+#[tactic(auto, unfolding(crate::specs::Plain::plain_clock))]
+fn plain_clock(c: ClockRead) -> bool
+    ensures { result ≡ plain_clock c }
 {
-    let time = c.time;
-    let utc = c.utc;
-    let good = (sep == b'T') & plain_time(time) & plain_utc(utc);
-    if c.timed {
-        return good;
-    }
-    true
+    matches!(c.lead, Some(b'T')) & plain_time(c.time) & c.utc.is_none_or(plain_utc)
 }
 
-fn plain_zone(z: ZoneRead) -> bool
-    ensures { result ≡ plain_zone z }
+fn plain_name(n: NameRead) -> bool
+    ensures { result ≡ plain_name n }
 {
-    match z {
-        ZoneRead::Is {
-            critical: _,
-            left: _,
-            size,
-        } => size <= LONGEST_NAME,
-        ZoneRead::Absent => true,
-    }
+    n.size <= LONGEST_NAME
 }
 
 // No annotation besides one calendar.
 fn plain_notes(n: Notes) -> bool
     ensures { result ≡ plain_notes n }
 {
-    !n.more & (n.size <= LONGEST_NAME)
+    !n.more & n.calendar.is_none_or(plain_name)
 }
 
-fn plain_tail(t: TailRead) -> bool
+fn plain_tail(t: Tail) -> bool
     ensures { result ≡ plain_tail t }
 {
-    match t {
-        TailRead::Is { zone, notes } => {
-            let short = plain_zone(zone);
-            short & plain_notes(notes)
-        }
-        TailRead::Bad => false,
-    }
+    t.zone.is_none_or(plain_name) & plain_notes(t.notes)
 }
 
+#[tactic(auto, unfolding(crate::specs::Plain::plain))]
 fn plain_stamp(w: StampRead) -> bool
     requires { Small w.date }
     ensures { result ≡ plain w }
 {
-    let date = w.date;
-    let clock = w.clock;
-    let tail = w.tail;
-    let dated = plain_date(date);
-    let late = meaning::verdict::late_day(date);
-    let timed = plain_clock(w.sep, clock);
-    dated & !late & timed & plain_tail(tail)
+    plain_date(w.date)
+        & !late_date(shown_date(w.date))
+        & w.clock.is_none_or(plain_clock)
+        & plain_tail(w.tail)
 }
 
 // Yes exactly if some accepted stamp with a date, separators on, writes the text under some settings.
 pub fn recognise(t: &[u8]) -> bool
     ensures { Recognised t.now result }
 {
-    if LONGEST_STAMP < t.len() {
-        return false;
-    }
-    plain_stamp(grammar::read_stamp(t))
+    (t.len() <= LONGEST_STAMP) && grammar::read_stamp(t).is_some_and(plain_stamp)
 }

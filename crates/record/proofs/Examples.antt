@@ -1,7 +1,8 @@
 -- The definitions at a few values, computed. Assumes nothing.
 use mathlib.Core.Path.{◌≡◌, refl}
 use mathlib.Core.Bool.{true, false}
-use Rattle.record.specs.declared.goal.GoalChoice.TheVariants.{Is, Unknown}
+use Rattle.std.specs.Prelude.{Ok, Err}
+use Rattle.text.specs.declared.refusal.Refusal.TheVariants.{NoSuchGoal}
 use Rattle.record.specs.declared.goal.Goal.TheVariants.{Stamp, MonthDay}
 use Rattle.record.specs.declared.stamp.Precision.TheVariants.{Auto, Minute}
 use Rattle.record.specs.declared.stamp.Sign.TheVariants.{Negative, Positive}
@@ -11,7 +12,7 @@ use Rattle.record.specs.Goals.{choices, goal_of}
 use Rattle.record.specs.Separators.{separators_on}
 use Rattle.record.specs.Steps.{nanosecond_of, no_parts, with_time, with_offset, with_minute_offset, with_z}
 
-goals : (goal_of 0 ≡ Is Stamp) × (goal_of 6 ≡ Is MonthDay) × (goal_of 7 ≡ Unknown) × (goal_of 4294967295 ≡ Unknown)
+goals : (goal_of 0 ≡ Ok Stamp) × (goal_of 6 ≡ Ok MonthDay) × (goal_of 7 ≡ Err NoSuchGoal) × (goal_of 4294967295 ≡ Err NoSuchGoal)
 unfolding goal_of choices
 goals = (refl, refl, refl, refl)
 

@@ -1,9 +1,9 @@
 -- The goals of a reading and their numbers, 0 to 6. Assumes nothing: these are definitions.
-use Rattle.std.specs.Prelude.{List, [], ◌∷◌, ℕ, get_or}
+use Rattle.std.specs.Prelude.{List, [], ◌∷◌, ℕ, get_or, Result, Ok, Err}
 use Rattle.record.specs.declared.goal.Goal.{Goal}
 use Rattle.record.specs.declared.goal.Goal.TheVariants.{Stamp, Plain, Zoned, Instant, Time, YearMonth, MonthDay}
-use Rattle.record.specs.declared.goal.GoalChoice.{GoalChoice}
-use Rattle.record.specs.declared.goal.GoalChoice.TheVariants.{Is, Unknown}
+use Rattle.text.specs.declared.refusal.Refusal.{Refusal}
+use Rattle.text.specs.declared.refusal.Refusal.TheVariants.{NoSuchGoal}
 
 abbrev pub goal_number : Goal → ℕ
 goal_number Stamp = 0
@@ -15,8 +15,8 @@ goal_number YearMonth = 5
 goal_number MonthDay = 6
 
 -- the goals that have a number, each at its own place
-unfoldable pub choices : List GoalChoice
-choices = Is Stamp ∷ Is Plain ∷ Is Zoned ∷ Is Instant ∷ Is Time ∷ Is YearMonth ∷ Is MonthDay ∷ []
+unfoldable pub choices : List (Result Goal Refusal)
+choices = Ok Stamp ∷ Ok Plain ∷ Ok Zoned ∷ Ok Instant ∷ Ok Time ∷ Ok YearMonth ∷ Ok MonthDay ∷ []
 
-unfoldable pub goal_of : ℕ → GoalChoice
-goal_of number = get_or choices number Unknown
+unfoldable pub goal_of : ℕ → Result Goal Refusal
+goal_of number = get_or choices number (Err NoSuchGoal)

@@ -1,5 +1,5 @@
 -- The steps that make a stamp: each sets one part, whole, and keeps the others. Assumes nothing: these are definitions.
-use Rattle.std.specs.Prelude.{Bool, true, cond, ◌&&◌, ℕ, ◌+◌, ◌*◌, leb}
+use Rattle.std.specs.Prelude.{Bool, true, cond, ◌&&◌, ℕ, ◌+◌, ◌*◌, leb, Some, None}
 use Rattle.record.specs.declared.stamp.Date.{Date}
 use Rattle.record.specs.declared.stamp.Precision.{Precision}
 use Rattle.record.specs.declared.stamp.Precision.TheVariants.{Minute}
@@ -10,11 +10,6 @@ use Rattle.record.specs.declared.stamp.DisplayOffset.{DisplayOffset}
 use Rattle.record.specs.declared.stamp.DisplayTimeZone.{DisplayTimeZone}
 use Rattle.record.specs.declared.stamp.DisplayCalendar.{DisplayCalendar}
 use Rattle.record.specs.declared.stamp.Name.{Name}
-use Rattle.record.specs.declared.stamp.DatePart.TheVariants as DatePart
-use Rattle.record.specs.declared.stamp.TimePart.TheVariants as TimePart
-use Rattle.record.specs.declared.stamp.OffsetPart.TheVariants as OffsetPart
-use Rattle.record.specs.declared.stamp.ZonePart.TheVariants as ZonePart
-use Rattle.record.specs.declared.stamp.CalendarPart.TheVariants as CalendarPart
 use Rattle.record.specs.declared.stamp.Stamp.{Stamp}
 
 abbrev pub sub_second : ℕ → ℕ → ℕ → Bool
@@ -27,15 +22,15 @@ nanosecond_of ms us ns = cond (sub_second ms us ns) (ms * 1000000 + us * 1000 + 
 abbrev pub no_parts : Stamp
 no_parts =
     record {
-      date = DatePart.Absent;
-      time = TimePart.Absent;
-      offset = OffsetPart.Absent;
-      zone = ZonePart.Absent;
-      calendar = CalendarPart.Absent;
+      date = None;
+      time = None;
+      offset = None;
+      zone = None;
+      calendar = None;
     }
 
 abbrev pub with_date : Stamp → Date → Stamp
-with_date s date = record { date = DatePart.Is date; time = s.time; offset = s.offset; zone = s.zone; calendar = s.calendar }
+with_date s date = record { date = Some date; time = s.time; offset = s.offset; zone = s.zone; calendar = s.calendar }
 
 -- separators are on
 abbrev pub with_time : Stamp → ℕ → ℕ → ℕ → ℕ → Precision → Stamp
@@ -43,7 +38,7 @@ with_time s hour minute second nanosecond precision =
     record {
       date = s.date;
       time =
-          TimePart.Is
+          Some
           (record {
             clock = record { hour = hour; minute = minute; second = second; nanosecond = nanosecond };
             precision = precision;
@@ -59,7 +54,7 @@ with_offset s show offset =
     record {
       date = s.date;
       time = s.time;
-      offset = OffsetPart.Is (record { show = show; offset = offset });
+      offset = Some (record { show = show; offset = offset });
       zone = s.zone;
       calendar = s.calendar;
     }
@@ -88,7 +83,7 @@ with_timezone s name show =
       date = s.date;
       time = s.time;
       offset = s.offset;
-      zone = ZonePart.Is (record { show = show; name = name });
+      zone = Some (record { show = show; name = name });
       calendar = s.calendar;
     }
 
@@ -99,5 +94,5 @@ with_calendar s name show =
       time = s.time;
       offset = s.offset;
       zone = s.zone;
-      calendar = CalendarPart.Is (record { show = show; name = name });
+      calendar = Some (record { show = show; name = name });
     }

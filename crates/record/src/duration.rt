@@ -1,7 +1,7 @@
 // Durations, with the settings of their text.
 use crate::stamp::{Precision, Sign};
 
-#[derive(Clone, Copy)]
+#[derive(Clone, Copy, Debug, PartialEq, Eq)]
 pub struct DateDuration {
     pub years: u32,
     pub months: u32,
@@ -9,16 +9,9 @@ pub struct DateDuration {
     pub days: u64,
 }
 
-#[derive(Clone, Copy)]
-pub enum DateDurationPart {
-    Absent,
-    Is(DateDuration),
-}
-
 // The largest unit that is kept; a fraction is in nanoseconds, 0 where there is none.
-#[derive(Clone, Copy)]
+#[derive(Clone, Copy, Debug, PartialEq, Eq)]
 pub enum TimeDuration {
-    Absent,
     Hours {
         hours: u64,
         fraction: u32,
@@ -36,10 +29,10 @@ pub enum TimeDuration {
     },
 }
 
-#[derive(Clone, Copy)]
+#[derive(Clone, Copy, Debug, PartialEq, Eq)]
 pub struct Duration {
     pub precision: Precision,
     pub sign: Sign,
-    pub date: DateDurationPart,
-    pub time: TimeDuration,
+    pub date: Option<DateDuration>,
+    pub time: Option<TimeDuration>,
 }

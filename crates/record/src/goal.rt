@@ -2,48 +2,43 @@
 ghost use Rattle.std.specs.Prelude.{◌≡◌};
 ghost use Rattle.record.specs.Goals.{goal_number, goal_of};
 
-#[derive(Clone, Copy)]
+use text::Refusal;
+
+#[derive(Clone, Copy, Debug, PartialEq, Eq)]
 pub enum Goal {
-    Stamp,
-    Plain,
-    Zoned,
-    Instant,
-    Time,
-    YearMonth,
-    MonthDay,
+    Stamp = 0,
+    Plain = 1,
+    Zoned = 2,
+    Instant = 3,
+    Time = 4,
+    YearMonth = 5,
+    MonthDay = 6,
 }
 
-#[derive(Clone, Copy)]
-pub enum GoalChoice {
-    Is(Goal),
-    Unknown,
-}
+impl From<Goal> for u8 {
+    ghost from_gives = { λ goal n. n ≡ goal_number goal };
 
-pub fn goal_number(g: Goal) -> u8
-    ensures { result ≡ goal_number g }
-{
-    match g {
-        Goal::Stamp => 0,
-        Goal::Plain => 1,
-        Goal::Zoned => 2,
-        Goal::Instant => 3,
-        Goal::Time => 4,
-        Goal::YearMonth => 5,
-        Goal::MonthDay => 6,
+    fn from(goal: Goal) -> u8 {
+        goal as u8
     }
 }
 
-pub fn goal_of(number: u32) -> GoalChoice
-    ensures { result ≡ goal_of number }
-{
-    match number {
-        0 => GoalChoice::Is(Goal::Stamp),
-        1 => GoalChoice::Is(Goal::Plain),
-        2 => GoalChoice::Is(Goal::Zoned),
-        3 => GoalChoice::Is(Goal::Instant),
-        4 => GoalChoice::Is(Goal::Time),
-        5 => GoalChoice::Is(Goal::YearMonth),
-        6 => GoalChoice::Is(Goal::MonthDay),
-        _ => GoalChoice::Unknown,
+impl TryFrom<u32> for Goal {
+    type Error = Refusal;
+
+    ghost try_from_gives = { λ number r. r ≡ goal_of number };
+
+    #[tactic(auto, using(crate::proofs::GoalLaws::no_goal), unfolding(crate::specs::Goals::goal_of, crate::specs::Goals::choices))]
+    fn try_from(number: u32) -> Result<Goal, Refusal> {
+        match number {
+            0 => Ok(Goal::Stamp),
+            1 => Ok(Goal::Plain),
+            2 => Ok(Goal::Zoned),
+            3 => Ok(Goal::Instant),
+            4 => Ok(Goal::Time),
+            5 => Ok(Goal::YearMonth),
+            6 => Ok(Goal::MonthDay),
+            _ => Err(Refusal::NoSuchGoal),
+        }
     }
 }

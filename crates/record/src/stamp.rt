@@ -2,21 +2,15 @@
 ghost use Rattle.std.specs.Prelude.{◌≡◌};
 ghost use Rattle.record.specs.Steps.{nanosecond_of, no_parts, with_date, with_time, with_offset, with_minute_offset, with_z, with_timezone, with_calendar};
 
-#[derive(Clone, Copy)]
+#[derive(Clone, Copy, Debug, PartialEq, Eq)]
 pub struct Date {
     pub year: i32,
     pub month: u8,
     pub day: u8,
 }
 
-#[derive(Clone, Copy)]
-pub enum DatePart {
-    Absent,
-    Is(Date),
-}
-
 // A time of day without settings.
-#[derive(Clone, Copy)]
+#[derive(Clone, Copy, Debug, PartialEq, Eq)]
 pub struct Clock {
     pub hour: u8,
     pub minute: u8,
@@ -24,90 +18,72 @@ pub struct Clock {
     pub nanosecond: u32,
 }
 
-#[derive(Clone, Copy)]
+#[derive(Clone, Copy, Debug, PartialEq, Eq)]
 pub enum Precision {
     Auto,
     Minute,
     Digit(u8),
 }
 
-#[derive(Clone, Copy)]
+#[derive(Clone, Copy, Debug, PartialEq, Eq)]
 pub struct Time {
     pub clock: Clock,
     pub precision: Precision,
     pub include_sep: bool,
 }
 
-#[derive(Clone, Copy)]
-pub enum TimePart {
-    Absent,
-    Is(Time),
-}
-
-#[derive(Clone, Copy)]
+#[derive(Clone, Copy, Debug, PartialEq, Eq)]
 pub enum Sign {
     Negative,
     Zero,
     Positive,
 }
 
-#[derive(Clone, Copy)]
+#[derive(Clone, Copy, Debug, PartialEq, Eq)]
 pub struct SignedTime {
     pub sign: Sign,
     pub time: Time,
 }
 
-#[derive(Clone, Copy)]
+#[derive(Clone, Copy, Debug, PartialEq, Eq)]
 pub enum UtcOffset {
     Z,
     Offset(SignedTime),
 }
 
-#[derive(Clone, Copy)]
+#[derive(Clone, Copy, Debug, PartialEq, Eq)]
 pub enum DisplayOffset {
     Auto,
     Never,
 }
 
-#[derive(Clone, Copy)]
+#[derive(Clone, Copy, Debug, PartialEq, Eq)]
 pub struct Offset {
     pub show: DisplayOffset,
     pub offset: UtcOffset,
 }
 
-#[derive(Clone, Copy)]
-pub enum OffsetPart {
-    Absent,
-    Is(Offset),
-}
-
 // A place and a length in the text that is lent beside the record.
-#[derive(Clone, Copy)]
+#[derive(Clone, Copy, Debug, PartialEq, Eq)]
 pub struct Name {
     pub at: usize,
     pub len: usize,
 }
 
-#[derive(Clone, Copy)]
+#[derive(Clone, Copy, Debug, PartialEq, Eq)]
 pub enum DisplayTimeZone {
     Auto,
     Never,
     Critical,
 }
 
-#[derive(Clone, Copy)]
+#[derive(Clone, Copy, Debug, PartialEq, Eq)]
 pub struct Zone {
     pub show: DisplayTimeZone,
     pub name: Name,
 }
 
-#[derive(Clone, Copy)]
-pub enum ZonePart {
-    Absent,
-    Is(Zone),
-}
-
-#[derive(Clone, Copy)]
+#[derive(Clone, Copy, Debug, PartialEq, Eq)]
 pub enum DisplayCalendar {
     Auto,
     Always,
@@ -115,25 +91,19 @@ pub enum DisplayCalendar {
     Critical,
 }
 
-#[derive(Clone, Copy)]
+#[derive(Clone, Copy, Debug, PartialEq, Eq)]
 pub struct Calendar {
     pub show: DisplayCalendar,
     pub name: Name,
 }
 
-#[derive(Clone, Copy)]
-pub enum CalendarPart {
-    Absent,
-    Is(Calendar),
-}
-
-#[derive(Clone, Copy)]
+#[derive(Clone, Copy, Debug, PartialEq, Eq)]
 pub struct Stamp {
-    pub date: DatePart,
-    pub time: TimePart,
-    pub offset: OffsetPart,
-    pub zone: ZonePart,
-    pub calendar: CalendarPart,
+    pub date: Option<Date>,
+    pub time: Option<Time>,
+    pub offset: Option<Offset>,
+    pub zone: Option<Zone>,
+    pub calendar: Option<Calendar>,
 }
 
 // The nanoseconds of three sub-second fields; over 999,999,999, which no writer takes, if a field is over 999.
@@ -153,27 +123,20 @@ impl Stamp {
         ensures { result ≡ no_parts }
     {
         Stamp {
-            date: DatePart::Absent,
-            time: TimePart::Absent,
-            offset: OffsetPart::Absent,
-            zone: ZonePart::Absent,
-            calendar: CalendarPart::Absent,
+            date: None,
+            time: None,
+            offset: None,
+            zone: None,
+            calendar: None,
         }
     }
 
     pub fn with_date(self, date: Date) -> Stamp
         ensures { result ≡ with_date self date }
     {
-        let time = self.time;
-        let offset = self.offset;
-        let zone = self.zone;
-        let calendar = self.calendar;
         Stamp {
-            date: DatePart::Is(date),
-            time,
-            offset,
-            zone,
-            calendar,
+            date: Some(date),
+            ..self
         }
     }
 
@@ -195,37 +158,23 @@ impl Stamp {
             second,
             nanosecond: joined_nanosecond(millisecond, microsecond, nanosecond),
         };
-        let shown = Time {
+        let time = Time {
             clock,
             precision,
             include_sep: true,
         };
-        let date = self.date;
-        let offset = self.offset;
-        let zone = self.zone;
-        let calendar = self.calendar;
         Stamp {
-            date,
-            time: TimePart::Is(shown),
-            offset,
-            zone,
-            calendar,
+            time: Some(time),
+            ..self
         }
     }
 
     fn with_offset(self, show: DisplayOffset, offset: UtcOffset) -> Stamp
         ensures { result ≡ with_offset self show offset }
     {
-        let date = self.date;
-        let time = self.time;
-        let zone = self.zone;
-        let calendar = self.calendar;
         Stamp {
-            date,
-            time,
-            offset: OffsetPart::Is(Offset { show, offset }),
-            zone,
-            calendar,
+            offset: Some(Offset { show, offset }),
+            ..self
         }
     }
 
@@ -256,32 +205,18 @@ impl Stamp {
     pub fn with_timezone(self, name: Name, show: DisplayTimeZone) -> Stamp
         ensures { result ≡ with_timezone self name show }
     {
-        let date = self.date;
-        let time = self.time;
-        let offset = self.offset;
-        let calendar = self.calendar;
         Stamp {
-            date,
-            time,
-            offset,
-            zone: ZonePart::Is(Zone { show, name }),
-            calendar,
+            zone: Some(Zone { show, name }),
+            ..self
         }
     }
 
     pub fn with_calendar(self, name: Name, show: DisplayCalendar) -> Stamp
         ensures { result ≡ with_calendar self name show }
     {
-        let date = self.date;
-        let time = self.time;
-        let offset = self.offset;
-        let zone = self.zone;
         Stamp {
-            date,
-            time,
-            offset,
-            zone,
-            calendar: CalendarPart::Is(Calendar { show, name }),
+            calendar: Some(Calendar { show, name }),
+            ..self
         }
     }
 }

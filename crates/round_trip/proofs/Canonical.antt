@@ -12,33 +12,26 @@ use borrow.Author.Tests.{ltb-true, leb-true}
 use lib.Dec.{ltb, leb}
 use lib.IntN.{ℤ, pos, negsuc, nat_abs}
 use lib.ListN.{take}
+use Rattle.std.specs.Prelude.{Option, Some, None, is_some}
 use Rattle.text.specs.Digits.{digits, shown, decimal, AllDigits, last_nonzero, pointed, fraction}
 use Rattle.text.proofs.DigitLaws.{all_digits}
 use Rattle.text.proofs.Answers.{both}
 use Rattle.iso.specs.Gregorian.{valid_date}
 use Rattle.iso.proofs.DateLaws.{valid_date_in}
+use Rattle.record.specs.declared.stamp.Calendar.{Calendar}
+use Rattle.record.specs.declared.stamp.Offset.{Offset}
+use Rattle.record.specs.declared.stamp.Zone.{Zone}
 use Rattle.record.specs.declared.stamp.Date.{Date}
-use Rattle.record.specs.declared.stamp.DatePart.{DatePart}
-use Rattle.record.specs.declared.stamp.DatePart.TheVariants as date
 use Rattle.record.specs.declared.stamp.Precision.{Precision}
 use Rattle.record.specs.declared.stamp.Precision.TheVariants.{Auto, Minute, Digit}
 use Rattle.record.specs.declared.stamp.Time.{Time}
-use Rattle.record.specs.declared.stamp.TimePart.{TimePart}
-use Rattle.record.specs.declared.stamp.TimePart.TheVariants as time
 use Rattle.record.specs.declared.stamp.Sign.{Sign}
 use Rattle.record.specs.declared.stamp.Sign.TheVariants.{Negative, Zero, Positive}
 use Rattle.record.specs.declared.stamp.UtcOffset.{UtcOffset}
 use Rattle.record.specs.declared.stamp.UtcOffset.TheVariants as utc
 use Rattle.record.specs.declared.stamp.DisplayOffset.{DisplayOffset}
 use Rattle.record.specs.declared.stamp.DisplayOffset.TheVariants as display
-use Rattle.record.specs.declared.stamp.OffsetPart.{OffsetPart}
-use Rattle.record.specs.declared.stamp.OffsetPart.TheVariants as part
-use Rattle.record.specs.declared.stamp.ZonePart.{ZonePart}
-use Rattle.record.specs.declared.stamp.ZonePart.TheVariants as zone
-use Rattle.record.specs.declared.stamp.CalendarPart.{CalendarPart}
-use Rattle.record.specs.declared.stamp.CalendarPart.TheVariants as calendar
 use Rattle.record.specs.declared.stamp.Stamp.{Stamp}
-use Rattle.record.specs.declared.shown.ShownOffset.TheVariants as offset
 use Rattle.record.specs.Separators.{time_separators, utc_separators, offset_separators, separators_on}
 use Rattle.names.specs.Grammar.{ZoneName, CalendarName}
 use Rattle.names.proofs.Exact.{zone_name_exact, calendar_name_exact}
@@ -52,9 +45,10 @@ use Rattle.tail_writer.specs.Annotation.{name_in, bracketed, annotation}
 use Rattle.tail_writer.specs.Zone.{zone_mark, zone_text, zone_ok}
 use Rattle.tail_writer.specs.Calendar.{calendar_key, is_iso, calendar_mark, calendar_text, calendar_ok}
 use Rattle.time_writer.proofs.TimeLaws.{time_in}
-use Rattle.writer.specs.Stamp.{has_date, date_part_text, time_part_text, offset_part_text, zone_part_text, calendar_part_text, stamp_text, date_part_ok, time_part_ok, offset_part_ok, zone_part_ok, calendar_part_ok, has_time, shows, shows_offset, parts_ok}
+use Rattle.writer.specs.Stamp.{part_text, part_ok, timed_text, stamp_text, shows, shows_offset, parts_ok}
 use Rattle.writer.proofs.StampLaws.{fields_in, names_in}
 use Rattle.date_syntax.specs.Syntax as dates
+use Rattle.time_syntax.specs.Read.{second_in}
 use Rattle.time_syntax.specs.Syntax as times
 use Rattle.tail_syntax.specs.Syntax as tails
 use Rattle.grammar.specs.Syntax as trees
@@ -113,17 +107,17 @@ all_take zero ds a = tt
 all_take (suc k) [] a = tt
 all_take (suc k) (d ∷ ds) a = (a.0, all_take k ds a.1)
 
-fraction_ok : (s : ℕ) (ds : List ℕ) → s ≤ 59 → AllDigits ds → times.SecsOk (fraction_tree s ds) × ((times.secs_kept (fraction_tree s ds)).second ≤ 59)
+fraction_ok : (s : ℕ) (ds : List ℕ) → s ≤ 59 → AllDigits ds → times.SecsOk (fraction_tree s ds) × (second_in (times.secs_kept (fraction_tree s ds)) ≤ 59)
 fraction_ok s [] h a = (omega arith, h)
 fraction_ok s (d ∷ ds) h a = ((omega arith, refl, omega arith, a), h)
 
-secs_ok : (p : Precision) (s n : ℕ) → s ≤ 59 → times.SecsOk (secs_tree p s n) × ((times.secs_kept (secs_tree p s n)).second ≤ 59)
+secs_ok : (p : Precision) (s n : ℕ) → s ≤ 59 → times.SecsOk (secs_tree p s n) × (second_in (times.secs_kept (secs_tree p s n)) ≤ 59)
 secs_ok Auto s n h = fraction_ok s (fraction_digits Auto n) h (all_take (last_nonzero (digits 9 n)) (digits 9 n) (all_digits 9 n))
 secs_ok Minute s n h = (tt, omega arith)
 secs_ok (Digit d) s n h = fraction_ok s (fraction_digits (Digit d) n) h (all_take d (digits 9 n) (all_digits 9 n))
 
 -- its second is at most 59, as an offset wants it
-pub time_ok_lem : (t : Time) → time_ok t ≡ true → times.TimeOk (time_tree t) × ((times.secs_kept (time_tree t).secs).second ≤ 59)
+pub time_ok_lem : (t : Time) → time_ok t ≡ true → times.TimeOk (time_tree t) × (second_in (times.secs_kept (time_tree t).secs) ≤ 59)
 time_ok_lem t e =
     let c = (time_in t e).0 in
     let s = secs_ok t.precision t.clock.second t.clock.nanosecond c.second in
@@ -140,10 +134,10 @@ unfolding signed_text times.utc_text
 utc_text_lem utc.Z e = refl
 utc_text_lem (utc.Offset o) e = rw (sign_byte_lem o.sign, time_text_lem o.time e)
 
-offset_text_lem : (p : OffsetPart) → offset_separators p ≡ true → offset_part_text p ≡ times.utc_text (offset_tree p)
+offset_text_lem : (p : Option Offset) → offset_separators p ≡ true → part_text offset_text p ≡ times.utc_text (offset_tree p)
 unfolding offset_text times.utc_text
-offset_text_lem part.Absent e = refl
-offset_text_lem (part.Is o) e = go o.show
+offset_text_lem None e = refl
+offset_text_lem (Some o) e = go o.show
   where
     go : (d : DisplayOffset) → unless_never d (utc_text o.offset) ≡ times.utc_text (display_tree d (utc_tree o.offset))
     go display.Auto = utc_text_lem o.offset e
@@ -153,34 +147,34 @@ utc_ok_lem : (u : UtcOffset) → utc_ok u ≡ true → times.UtcOk (utc_tree u)
 utc_ok_lem utc.Z e = refl
 utc_ok_lem (utc.Offset o) e = time_ok_lem o.time e
 
-offset_ok_lem : (p : OffsetPart) → offset_part_ok p ≡ true → times.UtcOk (offset_tree p)
+offset_ok_lem : (p : Option Offset) → part_ok offset_ok p ≡ true → times.UtcOk (offset_tree p)
 unfolding offset_ok
-offset_ok_lem part.Absent e = tt
-offset_ok_lem (part.Is o) e = go o.show
+offset_ok_lem None e = tt
+offset_ok_lem (Some o) e = go o.show
   where
     go : (d : DisplayOffset) → times.UtcOk (display_tree d (utc_tree o.offset))
     go display.Auto = utc_ok_lem o.offset e
     go display.Never = tt
 
 -- an offset without time is hidden
-pub offset_none : (p : OffsetPart) → (not (shows_offset p) || false) ≡ true → (offset_part_text p ≡ []) × (offset.Absent ≡ offset_shown p)
+pub offset_none : (p : Option Offset) → (not (shows_offset p) || false) ≡ true → (part_text offset_text p ≡ []) × (None ≡ offset_shown p)
 unfolding offset_text
-offset_none part.Absent h = (refl, refl)
-offset_none (part.Is o) h = go o.show h
+offset_none None h = (refl, refl)
+offset_none (Some o) h = go o.show h
   where
-    go : (d : DisplayOffset) → (not (shows d) || false) ≡ true → (unless_never d (utc_text o.offset) ≡ []) × (offset.Absent ≡ unless_hidden d (utc_shown o.offset))
+    go : (d : DisplayOffset) → (not (shows d) || false) ≡ true → (unless_never d (utc_text o.offset) ≡ []) × (None ≡ unless_hidden d (utc_shown o.offset))
     go display.Auto h = absurd (false≢true h)
     go display.Never h = (refl, refl)
 
 -- ---- the time with its offset, after `T`
-part_text_lem : (t : TimePart) (o : OffsetPart) → time_separators t ≡ true → offset_separators o ≡ true → (not (shows_offset o) || has_time t) ≡ true
-    → time_part_text true t ++ offset_part_text o ≡ trees.part_text (part_tree t o)
-part_text_lem time.Absent o e f h = (offset_none o h).0
-part_text_lem (time.Is t) o e f h = rw (time_text_lem t e, offset_text_lem o f)
+part_text_lem : (t : Option Time) (o : Option Offset) → time_separators t ≡ true → offset_separators o ≡ true → (not (shows_offset o) || is_some t) ≡ true
+    → part_text (timed_text true) t ++ part_text offset_text o ≡ trees.part_text (part_tree t o)
+part_text_lem None o e f h = (offset_none o h).0
+part_text_lem (Some t) o e f h = rw (time_text_lem t e, offset_text_lem o f)
 
-part_ok : (t : TimePart) (o : OffsetPart) → time_part_ok t ≡ true → offset_part_ok o ≡ true → trees.PartOk (part_tree t o)
-part_ok time.Absent o e f = tt
-part_ok (time.Is t) o e f = (refl, record { time = (time_ok_lem t e).0; utc = offset_ok_lem o f })
+part_ok_lem : (t : Option Time) (o : Option Offset) → part_ok time_ok t ≡ true → part_ok offset_ok o ≡ true → trees.PartOk (part_tree t o)
+part_ok_lem None o e f = tt
+part_ok_lem (Some t) o e f = (refl, record { time = (time_ok_lem t e).0; utc = offset_ok_lem o f })
 
 -- ---- the zone and the calendar
 zone_of_text : (m : Mark) (name : List ℕ) → annotation m [] name ≡ tails.zone_text (zone_of m name)
@@ -189,10 +183,10 @@ zone_of_text Hidden name = refl
 zone_of_text Plain name = refl
 zone_of_text Critical name = refl
 
-zone_text_lem : (lent : List ℕ) (p : ZonePart) → zone_part_text lent p ≡ tails.zone_text (zone_tree lent p)
+zone_text_lem : (lent : List ℕ) (p : Option Zone) → part_text (zone_text lent) p ≡ tails.zone_text (zone_tree lent p)
 unfolding zone_text
-zone_text_lem lent zone.Absent = refl
-zone_text_lem lent (zone.Is z) = zone_of_text (zone_mark z.show) (name_in lent z.name)
+zone_text_lem lent None = refl
+zone_text_lem lent (Some z) = zone_of_text (zone_mark z.show) (name_in lent z.name)
 
 notes_of_text : (m : Mark) (name : List ℕ) → annotation m calendar_key name ≡ tails.notes_text (notes_of m name)
 unfolding bracketed
@@ -200,40 +194,40 @@ notes_of_text Hidden name = refl
 notes_of_text Plain name = sym (append-nil _)
 notes_of_text Critical name = sym (append-nil _)
 
-notes_text_lem : (lent : List ℕ) (p : CalendarPart) → calendar_part_text lent p ≡ tails.notes_text (notes_tree lent p)
+notes_text_lem : (lent : List ℕ) (p : Option Calendar) → part_text (calendar_text lent) p ≡ tails.notes_text (notes_tree lent p)
 unfolding calendar_text
-notes_text_lem lent calendar.Absent = refl
-notes_text_lem lent (calendar.Is c) = notes_of_text (calendar_mark c.show (is_iso lent c)) (name_in lent c.name)
+notes_text_lem lent None = refl
+notes_text_lem lent (Some c) = notes_of_text (calendar_mark c.show (is_iso lent c)) (name_in lent c.name)
 
 zone_of_ok : (m : Mark) (name : List ℕ) → ZoneName name → tails.ZoneOk (zone_of m name)
 zone_of_ok Hidden name h = tt
 zone_of_ok Plain name h = h
 zone_of_ok Critical name h = h
 
-zone_ok_lem : (lent : List ℕ) (p : ZonePart) → zone_part_ok lent p ≡ true → tails.ZoneOk (zone_tree lent p)
+zone_ok_lem : (lent : List ℕ) (p : Option Zone) → part_ok (zone_ok lent) p ≡ true → tails.ZoneOk (zone_tree lent p)
 unfolding zone_ok
-zone_ok_lem lent zone.Absent e = tt
-zone_ok_lem lent (zone.Is z) e = zone_of_ok (zone_mark z.show) (name_in lent z.name) ((zone_name_exact lent z.name.at z.name.len).0 e).3
+zone_ok_lem lent None e = tt
+zone_ok_lem lent (Some z) e = zone_of_ok (zone_mark z.show) (name_in lent z.name) ((zone_name_exact lent z.name.at z.name.len).0 e).3
 
 notes_of_ok : (m : Mark) (name : List ℕ) → CalendarName name → tails.NotesOk (notes_of m name)
 notes_of_ok Hidden name h = tt
 notes_of_ok Plain name h = (((refl, (refl, (refl, (refl, tt)))), h), tt)
 notes_of_ok Critical name h = (((refl, (refl, (refl, (refl, tt)))), h), tt)
 
-notes_ok : (lent : List ℕ) (p : CalendarPart) → calendar_part_ok lent p ≡ true → tails.NotesOk (notes_tree lent p)
+notes_ok : (lent : List ℕ) (p : Option Calendar) → part_ok (calendar_ok lent) p ≡ true → tails.NotesOk (notes_tree lent p)
 unfolding calendar_ok
-notes_ok lent calendar.Absent e = tt
-notes_ok lent (calendar.Is c) e =
+notes_ok lent None e = tt
+notes_ok lent (Some c) e =
     notes_of_ok (calendar_mark c.show (is_iso lent c)) (name_in lent c.name) ((calendar_name_exact lent c.name.at c.name.len).0 e).3
 
 -- ---- what is known of the parts of a stamp that makes a line
 pub record PartsIn (lent : List ℕ) (s : Stamp) : Type 0 where
-  pub date : date_part_ok s.date ≡ true
-  pub time : time_part_ok s.time ≡ true
-  pub offset : offset_part_ok s.offset ≡ true
-  pub zone : zone_part_ok lent s.zone ≡ true
-  pub calendar : calendar_part_ok lent s.calendar ≡ true
-  pub timed : (not (shows_offset s.offset) || has_time s.time) ≡ true
+  pub date : part_ok date_ok s.date ≡ true
+  pub time : part_ok time_ok s.time ≡ true
+  pub offset : part_ok offset_ok s.offset ≡ true
+  pub zone : part_ok (zone_ok lent) s.zone ≡ true
+  pub calendar : part_ok (calendar_ok lent) s.calendar ≡ true
+  pub timed : (not (shows_offset s.offset) || is_some s.time) ≡ true
   pub time_separated : time_separators s.time ≡ true
   pub offset_separated : offset_separators s.offset ≡ true
 
@@ -249,7 +243,7 @@ parts_in {lent} {s} line =
       offset = fields.2;
       zone = names.0;
       calendar = names.1;
-      timed = (both (has_date s.date || has_time s.time) _ line.accepted.parts).1;
+      timed = (both (is_some s.date || is_some s.time) _ line.accepted.parts).1;
       time_separated = on.0;
       offset_separated = on.1;
     }
@@ -263,16 +257,16 @@ pub record Canonical (lent : List ℕ) (s : Stamp) (w : trees.StampTree) : Type 
   pub ok : trees.StampOk w
   pub text : stamp_text lent s ≡ trees.stamp_text w
 
-module _ (lent : List ℕ) (s : Stamp) (line : Line lent s) (d : Date) (e : s.date ≡ date.Is d) where
+module _ (lent : List ℕ) (s : Stamp) (line : Line lent s) (d : Date) (e : s.date ≡ Some d) where
   canon_text : stamp_text lent s ≡ trees.stamp_text (canon lent d s)
   unfolding stamp_text canon
   canon_text =
       let p = parts_in line in
-      let t = time_part_text true s.time in
-      let o = offset_part_text s.offset in
-      let z = zone_part_text lent s.zone in
-      let c = calendar_part_text lent s.calendar in
-      ap (λ (p : DatePart). date_part_text p ++ time_part_text (has_date p) s.time ++ o ++ z ++ c) e
+      let t = part_text (timed_text true) s.time in
+      let o = part_text offset_text s.offset in
+      let z = part_text (zone_text lent) s.zone in
+      let c = part_text (calendar_text lent) s.calendar in
+      ap (λ (p : Option Date). part_text date_text p ++ part_text (timed_text (is_some p)) s.time ++ o ++ z ++ c) e
       ∙ regroup (date_text d) t o z c
       ∙ rw (date_text_lem d, part_text_lem s.time s.offset p.time_separated p.offset_separated p.timed, zone_text_lem lent s.zone, notes_text_lem lent s.calendar) refl
 
@@ -282,7 +276,7 @@ module _ (lent : List ℕ) (s : Stamp) (line : Line lent s) (d : Date) (e : s.da
       let p = parts_in line in
       record {
         date = date_ok_lem d (rw e at p.date);
-        part = part_ok s.time s.offset p.time p.offset;
+        part = part_ok_lem s.time s.offset p.time p.offset;
         tail = record { zone = zone_ok_lem lent s.zone p.zone; notes = notes_ok lent s.calendar p.calendar };
       }
 
@@ -291,6 +285,6 @@ module _ (lent : List ℕ) (s : Stamp) (line : Line lent s) (d : Date) (e : s.da
   canonical = record { ok = canon_ok; text = canon_text }
 
 -- the date of a stamp that has one
-pub dated : (p : DatePart) → has_date p ≡ true → (d : Date) × (p ≡ date.Is d)
-dated date.Absent e = absurd (false≢true e)
-dated (date.Is d) e = (d, refl)
+pub dated : (p : Option Date) → is_some p ≡ true → (d : Date) × (p ≡ Some d)
+dated None e = absurd (false≢true e)
+dated (Some d) e = (d, refl)

@@ -6,9 +6,11 @@
 use Prim.Native.Nat.{ℕ}
 use mathlib.Core.Path.{◌≡◌, sym, ap, ◌∙◌}
 use mathlib.Core.List.{List, ◌++◌}
+use Rattle.std.specs.Prelude.{Ok}
 use Rattle.record.specs.declared.stamp.Stamp.{Stamp}
+use Rattle.meaning.specs.Said.{Told}
 use Rattle.writer.specs.Stamp.{stamp_text}
-use Rattle.meaning.specs.Said.{told, says}
+use Rattle.meaning.specs.Said.{told}
 use Rattle.kinds.specs.Kinds.{read_stamp}
 use Rattle.kinds.proofs.Meaning.{stamp_meaning}
 use Rattle.round_trip.specs.Shown.{shown_record, Line}
@@ -18,13 +20,13 @@ use Rattle.round_trip.proofs.Says.{canon_means}
 use Rattle.round_trip.proofs.Places.{told_longer}
 
 module _ (lent : List ℕ) (s : Stamp) where
-  pub round_trip : Line lent s → told (stamp_text lent s) (read_stamp (stamp_text lent s)) ≡ says (shown_record lent s)
+  pub round_trip : Line lent s → told (stamp_text lent s) (read_stamp (stamp_text lent s)) ≡ Ok (shown_record lent s)
   round_trip line =
       let d = dated s.date line.dated in
       let c = canonical lent s line d.0 d.1 in
       rw c.text (stamp_meaning.meant (canon lent d.0 s) c.ok ∙ canon_means lent s line d.0 d.1)
 
-  pub round_trip_in : (rest : List ℕ) → Line lent s → told (stamp_text lent s ++ rest) (read_stamp (stamp_text lent s)) ≡ says (shown_record lent s)
+  pub round_trip_in : (rest : List ℕ) → Line lent s → told (stamp_text lent s ++ rest) (read_stamp (stamp_text lent s)) ≡ Ok (shown_record lent s)
   round_trip_in rest line =
       let d = dated s.date line.dated in
       let c = canonical lent s line d.0 d.1 in
@@ -33,6 +35,6 @@ module _ (lent : List ℕ) (s : Stamp) where
 pub one_line_one_event : (lent lent' : List ℕ) (s s' : Stamp) → Line lent s → Line lent' s'
     → stamp_text lent s ≡ stamp_text lent' s' → shown_record lent s ≡ shown_record lent' s'
 one_line_one_event lent lent' s s' line line' e =
-    let same : says (shown_record lent s) ≡ says (shown_record lent' s') =
+    let same : ◌≡◌ {A = Told} (Ok (shown_record lent s)) (Ok (shown_record lent' s')) =
     sym (round_trip lent s line) ∙ ap (λ (l : List ℕ). told l (read_stamp l)) e ∙ round_trip lent' s' line' in
     cc

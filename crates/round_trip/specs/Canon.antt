@@ -1,22 +1,17 @@
 -- THE CANONICAL TREE of a stamp with a date, separators on: the syntax tree whose text is written. Assumes nothing: these are definitions.
-use Rattle.std.specs.Prelude.{ℕ, suc, true, false, not, List, [], ◌∷◌, ltb, ℤ, pos, negsuc, take}
+use Rattle.std.specs.Prelude.{ℕ, suc, true, false, not, List, [], ◌∷◌, ltb, ℤ, pos, negsuc, take, Option, Some, None}
 use Rattle.text.specs.Digits.{digits, last_nonzero}
+use Rattle.record.specs.declared.stamp.Calendar.{Calendar}
+use Rattle.record.specs.declared.stamp.Offset.{Offset}
+use Rattle.record.specs.declared.stamp.Zone.{Zone}
 use Rattle.record.specs.declared.stamp.Date.{Date}
 use Rattle.record.specs.declared.stamp.Precision.{Precision}
 use Rattle.record.specs.declared.stamp.Precision.TheVariants.{Auto, Minute, Digit}
 use Rattle.record.specs.declared.stamp.Time.{Time}
-use Rattle.record.specs.declared.stamp.TimePart.{TimePart}
-use Rattle.record.specs.declared.stamp.TimePart.TheVariants as time
 use Rattle.record.specs.declared.stamp.UtcOffset.{UtcOffset}
 use Rattle.record.specs.declared.stamp.UtcOffset.TheVariants as utc
 use Rattle.record.specs.declared.stamp.DisplayOffset.{DisplayOffset}
 use Rattle.record.specs.declared.stamp.DisplayOffset.TheVariants as display
-use Rattle.record.specs.declared.stamp.OffsetPart.{OffsetPart}
-use Rattle.record.specs.declared.stamp.OffsetPart.TheVariants as part
-use Rattle.record.specs.declared.stamp.ZonePart.{ZonePart}
-use Rattle.record.specs.declared.stamp.ZonePart.TheVariants as zone
-use Rattle.record.specs.declared.stamp.CalendarPart.{CalendarPart}
-use Rattle.record.specs.declared.stamp.CalendarPart.TheVariants as calendar
 use Rattle.record.specs.declared.stamp.Stamp.{Stamp}
 use Rattle.precision.specs.Precision.{digits_shown}
 use Rattle.tail_writer.specs.declared.annotation.Mark.{Mark}
@@ -64,13 +59,13 @@ abbrev pub display_tree : DisplayOffset → times.UtcTree → times.UtcTree
 display_tree display.Auto u = u
 display_tree display.Never u = times.absent
 
-abbrev pub offset_tree : OffsetPart → times.UtcTree
-offset_tree part.Absent = times.absent
-offset_tree (part.Is o) = display_tree o.show (utc_tree o.offset)
+abbrev pub offset_tree : Option Offset → times.UtcTree
+offset_tree None = times.absent
+offset_tree (Some o) = display_tree o.show (utc_tree o.offset)
 
-abbrev pub part_tree : TimePart → OffsetPart → PartTree
-part_tree time.Absent o = date_only
-part_tree (time.Is t) o = at 84 (record { time = time_tree t; utc = offset_tree o })
+abbrev pub part_tree : Option Time → Option Offset → PartTree
+part_tree None o = date_only
+part_tree (Some t) o = at 84 (record { time = time_tree t; utc = offset_tree o })
 
 -- ---- the zone, and the calendar as the one annotation
 abbrev pub zone_of : Mark → List ℕ → tails.ZoneTree
@@ -78,18 +73,18 @@ zone_of Hidden name = tails.no_zone
 zone_of Plain name = tails.one_zone false name
 zone_of Critical name = tails.one_zone true name
 
-abbrev pub zone_tree : List ℕ → ZonePart → tails.ZoneTree
-zone_tree lent zone.Absent = tails.no_zone
-zone_tree lent (zone.Is z) = zone_of (zone_mark z.show) (name_in lent z.name)
+abbrev pub zone_tree : List ℕ → Option Zone → tails.ZoneTree
+zone_tree lent None = tails.no_zone
+zone_tree lent (Some z) = zone_of (zone_mark z.show) (name_in lent z.name)
 
 abbrev pub notes_of : Mark → List ℕ → List tails.NoteTree
 notes_of Hidden name = []
 notes_of Plain name = record { critical = false; key = uca; value = name } ∷ []
 notes_of Critical name = record { critical = true; key = uca; value = name } ∷ []
 
-abbrev pub notes_tree : List ℕ → CalendarPart → List tails.NoteTree
-notes_tree lent calendar.Absent = []
-notes_tree lent (calendar.Is c) = notes_of (calendar_mark c.show (is_iso lent c)) (name_in lent c.name)
+abbrev pub notes_tree : List ℕ → Option Calendar → List tails.NoteTree
+notes_tree lent None = []
+notes_tree lent (Some c) = notes_of (calendar_mark c.show (is_iso lent c)) (name_in lent c.name)
 
 -- ---- the whole, of a stamp whose date is d
 unfoldable pub canon : List ℕ → Date → Stamp → StampTree

@@ -1,37 +1,30 @@
 -- THE SHOWN RECORD: what the text of a stamp shows of it, and so what reading that text gives back; and the stamps that demand 3 speaks of.
 -- Assumes nothing: these are definitions.
-use Rattle.std.specs.Prelude.{ℕ, ◌-◌, ◌%◌, ◌^◌, Bool, true, false, ◌≡◌, List}
+use Rattle.std.specs.Prelude.{ℕ, ◌-◌, ◌%◌, ◌^◌, Bool, true, false, ◌≡◌, List, Option, Some, None, is_some, option_map}
+use Rattle.record.specs.declared.stamp.Calendar.{Calendar}
+use Rattle.record.specs.declared.stamp.Offset.{Offset}
+use Rattle.record.specs.declared.stamp.Zone.{Zone}
+use Rattle.record.specs.declared.shown.ShownOffset.TheVariants.{Z, At}
 use Rattle.record.specs.declared.stamp.Precision.{Precision}
 use Rattle.record.specs.declared.stamp.Precision.TheVariants.{Auto, Minute, Digit}
 use Rattle.record.specs.declared.stamp.Clock.{Clock}
 use Rattle.record.specs.declared.stamp.Time.{Time}
-use Rattle.record.specs.declared.stamp.TimePart.{TimePart}
-use Rattle.record.specs.declared.stamp.TimePart.TheVariants as time
 use Rattle.record.specs.declared.stamp.Sign.{Sign}
 use Rattle.record.specs.declared.stamp.Sign.TheVariants.{Negative, Zero, Positive}
 use Rattle.record.specs.declared.stamp.UtcOffset.{UtcOffset}
 use Rattle.record.specs.declared.stamp.UtcOffset.TheVariants as utc
 use Rattle.record.specs.declared.stamp.DisplayOffset.{DisplayOffset}
 use Rattle.record.specs.declared.stamp.DisplayOffset.TheVariants as display
-use Rattle.record.specs.declared.stamp.OffsetPart.{OffsetPart}
-use Rattle.record.specs.declared.stamp.OffsetPart.TheVariants as part
-use Rattle.record.specs.declared.stamp.ZonePart.{ZonePart}
-use Rattle.record.specs.declared.stamp.ZonePart.TheVariants as zone
-use Rattle.record.specs.declared.stamp.CalendarPart.{CalendarPart}
-use Rattle.record.specs.declared.stamp.CalendarPart.TheVariants as calendar
 use Rattle.record.specs.declared.stamp.Stamp.{Stamp}
-use Rattle.record.specs.declared.shown.ClockPart.{ClockPart}
-use Rattle.record.specs.declared.shown.ClockPart.TheVariants as clock
 use Rattle.record.specs.declared.shown.ShownOffset.{ShownOffset}
-use Rattle.record.specs.declared.shown.ShownOffset.TheVariants as offset
 use Rattle.record.specs.Separators.{separators_on}
 use Rattle.tail_writer.specs.declared.annotation.Mark.{Mark}
 use Rattle.tail_writer.specs.declared.annotation.Mark.TheVariants.{Hidden, Plain, Critical}
 use Rattle.tail_writer.specs.Annotation.{name_in}
 use Rattle.tail_writer.specs.Zone.{zone_mark}
 use Rattle.tail_writer.specs.Calendar.{is_iso, calendar_mark}
-use Rattle.writer.specs.Stamp.{has_date, fields_ok, names_ok, parts_ok}
-use Rattle.meaning.specs.Said.{NameSaid, unsaid, said, Said}
+use Rattle.writer.specs.Stamp.{fields_ok, names_ok, parts_ok}
+use Rattle.meaning.specs.Said.{NameSaid, said, Said}
 
 -- ---- a time of day, cut by its precision: under Minute second and nanosecond are 0, Digit(d) cuts the nanosecond to d digits
 abbrev pub second_shown : Precision → ℕ → ℕ
@@ -53,9 +46,8 @@ clock_shown t =
       nanosecond = nanosecond_shown t.precision t.clock.nanosecond;
     }
 
-abbrev pub time_shown : TimePart → ClockPart
-time_shown time.Absent = clock.Absent
-time_shown (time.Is t) = clock.Is (clock_shown t)
+abbrev pub time_shown : Option Time → Option Clock
+time_shown t = option_map clock_shown t
 
 -- ---- an offset, cut by its own precision: sign Zero counts as Positive; Negative stays, also at zero; nothing under Never
 abbrev pub is_negative : Sign → Bool
@@ -64,30 +56,30 @@ is_negative Zero = false
 is_negative Positive = false
 
 abbrev pub utc_shown : UtcOffset → ShownOffset
-utc_shown utc.Z = offset.Z
-utc_shown (utc.Offset o) = offset.Is (record { negative = is_negative o.sign; clock = clock_shown o.time })
+utc_shown utc.Z = Z
+utc_shown (utc.Offset o) = At (record { negative = is_negative o.sign; clock = clock_shown o.time })
 
-abbrev pub unless_hidden : DisplayOffset → ShownOffset → ShownOffset
-unless_hidden display.Auto o = o
-unless_hidden display.Never o = offset.Absent
+abbrev pub unless_hidden : DisplayOffset → ShownOffset → Option ShownOffset
+unless_hidden display.Auto o = Some o
+unless_hidden display.Never o = None
 
-abbrev pub offset_shown : OffsetPart → ShownOffset
-offset_shown part.Absent = offset.Absent
-offset_shown (part.Is o) = unless_hidden o.show (utc_shown o.offset)
+abbrev pub offset_shown : Option Offset → Option ShownOffset
+offset_shown None = None
+offset_shown (Some o) = unless_hidden o.show (utc_shown o.offset)
 
 -- ---- a name with its critical mark: hidden as the writers hide it, a calendar under Auto exactly where it is `iso8601`
-abbrev pub name_shown : Mark → List ℕ → NameSaid
-name_shown Hidden name = unsaid
+abbrev pub name_shown : Mark → List ℕ → Option NameSaid
+name_shown Hidden name = None
 name_shown Plain name = said false name
 name_shown Critical name = said true name
 
-abbrev pub zone_shown : List ℕ → ZonePart → NameSaid
-zone_shown lent zone.Absent = unsaid
-zone_shown lent (zone.Is z) = name_shown (zone_mark z.show) (name_in lent z.name)
+abbrev pub zone_shown : List ℕ → Option Zone → Option NameSaid
+zone_shown lent None = None
+zone_shown lent (Some z) = name_shown (zone_mark z.show) (name_in lent z.name)
 
-abbrev pub calendar_shown : List ℕ → CalendarPart → NameSaid
-calendar_shown lent calendar.Absent = unsaid
-calendar_shown lent (calendar.Is c) = name_shown (calendar_mark c.show (is_iso lent c)) (name_in lent c.name)
+abbrev pub calendar_shown : List ℕ → Option Calendar → Option NameSaid
+calendar_shown lent None = None
+calendar_shown lent (Some c) = name_shown (calendar_mark c.show (is_iso lent c)) (name_in lent c.name)
 
 -- ---- the whole: hidden and absent parts are absent, and no setting is part of it
 unfoldable pub shown_record : List ℕ → Stamp → Said
@@ -109,5 +101,5 @@ pub record Accepted (lent : List ℕ) (s : Stamp) : Type 0 where
 -- a stamp that makes a line: the writer accepts it, it has a date, and separators are on
 pub record Line (lent : List ℕ) (s : Stamp) : Type 0 where
   pub accepted : Accepted lent s
-  pub dated : has_date s.date ≡ true
+  pub dated : is_some s.date ≡ true
   pub separated : separators_on s ≡ true

@@ -5,21 +5,17 @@ ghost use Rattle.std.specs.Prelude.{◌≡◌};
 ghost use Rattle.reader.specs.Parts.{checked};
 ghost use Rattle.stamp.specs.Export.{Answered};
 
-// What a write, a length and a reading answer, and the numbers of the refusals.
-pub use text::{LengthAnswer, WriteAnswer, refusal};
+// Why a record or a text is refused; what a write and a length answer is Ok of a count of bytes, or Err of that.
+pub use text::{Refusal, refusal};
 
 // Records, by value, with the settings that shape their texts, and the steps that set a part of a stamp.
 pub use record::{
-    Calendar, CalendarPart, Clock, Date, DateDuration, DateDurationPart, DatePart, DisplayCalendar,
-    DisplayOffset, DisplayTimeZone, Duration, Name, Offset, OffsetPart, Precision, Sign,
-    SignedTime, Stamp, Time, TimeDuration, TimePart, UtcOffset, Zone, ZonePart,
+    Calendar, Clock, Date, DateDuration, DisplayCalendar, DisplayOffset, DisplayTimeZone, Duration,
+    Name, Offset, Precision, Sign, SignedTime, Stamp, Time, TimeDuration, UtcOffset, Zone,
 };
 
 // Goals, and what a reading shows.
-pub use record::{
-    ClockPart, Goal, GoalChoice, MarkedName, NamePart, Reading, Shown, ShownOffset, SignedClock,
-    goal_number, goal_of, reading_refusal,
-};
+pub use record::{Goal, MarkedName, Reading, Shown, ShownOffset, SignedClock, reading_refusal};
 
 // Digits and checks.
 pub use iso::{is_leap, is_valid_date, is_valid_time, iso_days_in_month};
@@ -47,12 +43,12 @@ pub use round_trip::there_and_back;
 pub fn stamp_recognise(text: &[u8]) -> u32
     ensures { Answered text.now result }
 {
-    if recogniser::recognise(text) { 1 } else { 0 }
+    u32::from(recogniser::recognise(text))
 }
 
 // For C: 0 if the text is accepted for the goal of that number, else the refusal's number; 15 before all others for a goal above 6.
 pub fn stamp_check(goal: u32, text: &[u8]) -> u32
     ensures { result ≡ checked goal text.now }
 {
-    reader::parts::check(goal, text) as u32
+    u32::from(reader::parts::check(goal, text))
 }

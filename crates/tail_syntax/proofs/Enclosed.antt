@@ -1,28 +1,36 @@
 -- An opening bracket with its mark, and a name up to the byte that ends it: read exactly, for every kind of name. Assumes nothing.
-use Prim.Native.Nat.{ℕ, ◌<◌}
-use native.Mathlib.Omega.{arith}
-use mathlib.Core.Bool.{Bool, true, false, cond, false≢true}
-use mathlib.Core.Path.{◌≡◌, refl, ap}
-use mathlib.Core.List.{List, [], ◌∷◌, ◌++◌, append_assoc}
-use lib.ListN.{length, take, drop, take-append-drop}
-use lib.Seq.{drop-drop, drop-append_seam}
-use lib.Dec.{eqb}
-use borrow.Author.Tests.{lt-ltb, eq-eqb, ne_eqb, eqb-true, ltb-true}
+use Rattle.std.proofs.Common.{◌≡◌, ℕ, ◌<◌, Bool, true, false, cond, eqb, List, [], ◌∷◌, ◌++◌, length, take, drop, Option, Some, None, option_map, refl, ap, append_assoc, arith, drop-drop, take-append-drop, eq-eqb, ne_eqb, eqb-true}
+use Rattle.std.proofs.lemmas.Option.{none-some, same_Some}
+use Rattle.std.specs.Bool.{then_some}
+use mathlib.Core.Bool.{false≢true}
+use lib.Seq.{drop-append_seam}
 use Rattle.text.specs.Walk.{front}
-use Rattle.text.proofs.Answers.{both}
 use Rattle.names.specs.Grammar.{ZoneName, numeric, named, Joined, one, more, ZonePart, Key}
 use Rattle.names.proofs.FieldLaws.{front-cons}
 use Rattle.names.proofs.Exact.{Reads}
-use Rattle.tail_syntax.specs.Read.{marked, inside, past, ends}
-use Rattle.tail_syntax.specs.Syntax.{bracket}
+use Rattle.tail_syntax.specs.declared.bracket.NameRead.{NameRead}
+use Rattle.tail_syntax.specs.Read.{opened, inside, ended, closed, past}
+use Rattle.tail_syntax.specs.Syntax.{bracket, name_kept}
+
+pub some_then : {A : Type 0} (ok : Bool) {x y : A} → then_some ok x ≡ Some y → (ok ≡ true) × (x ≡ y)
+some_then true e = (refl, cc)
+some_then false e = absurd (none-some _ e)
+
+pub mapped : {A B : Type 0} (f : A → B) (o : Option A) {y : B} → option_map f o ≡ Some y → (x : A) × (o ≡ Some x) × (f x ≡ y)
+mapped f None e = absurd (none-some _ e)
+mapped f (Some x) e = (x, refl, same_Some _ _ e)
 
 -- ---- the bracket
 
 -- what stands in it starts with no `!`, so its own mark is read
-pub marked_text : (c : Bool) (l : List ℕ) → (front l ≡ 33 → ⊥) → marked (bracket c ++ l) ≡ c
-unfolding marked
-marked_text true l h = refl
-marked_text false l h = ne_eqb (front l) 33 h
+pub opened_text : (c : Bool) (l : List ℕ) → (front l ≡ 33 → ⊥) → opened (bracket c ++ l) ≡ Some c
+unfolding opened
+opened_text true l h = refl
+opened_text false l h = ap Some (ne_eqb (front l) 33 h)
+
+pub opened_end : opened [] ≡ None
+unfolding opened
+opened_end = refl
 
 pub inside_text : (c : Bool) (l : List ℕ) → inside c (bracket c ++ l) ≡ l
 unfolding inside
@@ -30,15 +38,18 @@ inside_text true l = refl
 inside_text false l = refl
 
 -- the other way: what starts with `[` is a bracket and what stands in it
-pub bracket_sound : (l : List ℕ) → front l ≡ 91 → l ≡ bracket (marked l) ++ inside (marked l) l
-unfolding marked inside
-bracket_sound l a = go (eqb (front (drop 1 l)) 33) refl
+pub opened_sound : (l : List ℕ) {c : Bool} → opened l ≡ Some c → l ≡ bracket c ++ inside c l
+unfolding opened inside
+opened_sound l {c} e = go c (some_then _ e).1
   where
-    first : l ≡ front l ∷ drop 1 l
-    first = front-cons l (λ z. omega arith)
+    first : l ≡ 91 ∷ drop 1 l
+    first =
+        let a = eqb-true (front l) 91 (some_then _ e).0 in
+        let x = front-cons l (λ z. omega arith) in
+        cc
 
-    go : (t : Bool) → eqb (front (drop 1 l)) 33 ≡ t → l ≡ bracket t ++ cond t (drop 2 l) (drop 1 l)
-    go false e = let x = first in cc
+    go : (c : Bool) → eqb (front (drop 1 l)) 33 ≡ c → l ≡ bracket c ++ cond c (drop 2 l) (drop 1 l)
+    go false e = first
     go true e =
         let m : front (drop 1 l) ≡ 33 = eqb-true _ _ e in
         let y : drop 1 l ≡ front (drop 1 l) ∷ drop 1 (drop 1 l) = front-cons (drop 1 l) (λ z. omega arith) in
@@ -54,24 +65,32 @@ pub record NameAt (Name : List ℕ → Type 0) (stop : ℕ) (l : List ℕ) (n : 
   pub ok : Name name
   pub text : l ≡ name ++ (stop ∷ past n l)
 
-module _ {run : List ℕ → ℕ} {Name : List ℕ → Type 0} {stop : ℕ} (r : Reads run Name stop) where
-  pub name_size : (n l : List ℕ) → Name n → run (n ++ (stop ∷ l)) ≡ length n
-  name_size n l h = r.text n (stop ∷ l) h refl
+module _ {run : List ℕ → Option ℕ} {Name : List ℕ → Type 0} {stop : ℕ} (r : Reads run Name stop) where
+  pub name-ended : (n l : List ℕ) → Name n → ended stop (run (n ++ (stop ∷ l))) (n ++ (stop ∷ l)) ≡ Some (length n)
+  unfolding ended
+  name-ended n l h = rw (r.text n (stop ∷ l) h refl, drop-append_seam n (stop ∷ l), eq-eqb stop stop refl)
 
-  pub name-ends : (n l : List ℕ) → Name n → ends (length n) stop (n ++ (stop ∷ l)) ≡ true
-  unfolding ends
-  name-ends n l h = rw (lt-ltb 0 (length n) (r.some n h), drop-append_seam n (stop ∷ l), eq-eqb stop stop refl)
+  pub name_sound : (l : List ℕ) {n : ℕ} → 0 < stop → ended stop (run l) l ≡ Some n → NameAt Name stop l n
+  unfolding ended
+  name_sound l {n} h e = go (run l) refl e
+    where
+      go : (k : Option ℕ) → run l ≡ k → ended stop k l ≡ Some n → NameAt Name stop l n
+      go None f e = absurd (none-some _ e)
+      go (Some k) f e =
+          let p = some_then _ e in
+          let s = r.sound l (rw p.1 at f) in
+          let m : front (drop n l) ≡ stop = rw p.1 at (eqb-true _ _ p.0) in
+          let x : take n l ++ drop n l ≡ l = take-append-drop n l in
+          let y : drop n l ≡ front (drop n l) ∷ past n l = front-cons (drop n l) (λ z. omega arith) in
+          record { name = take n l; ok = s.0; text = cc }
 
-  pub name_sound : (l : List ℕ) {n : ℕ} → run l ≡ n → 0 < stop → ends n stop l ≡ true → NameAt Name stop l n
-  unfolding ends
-  name_sound l {n} e h t =
-      let p = both _ _ t in
-      let k = ltb-true 0 n p.0 in
-      let s = r.sound l e (λ z. omega arith) in
-      let m : front (drop n l) ≡ stop = eqb-true _ _ p.1 in
-      let x : take n l ++ drop n l ≡ l = take-append-drop n l in
-      let y : drop n l ≡ front (drop n l) ∷ past n l = front-cons (drop n l) (λ z. omega arith) in
-      record { name = take n l; ok = s.0; text = cc }
+pub closed_text : (c : Bool) (n r : List ℕ) (name : Option ℕ) → ended 93 name (n ++ (93 ∷ r)) ≡ Some (length n)
+    → closed c name (n ++ (93 ∷ r)) ≡ Some (name_kept c n r)
+closed_text c n r name e = rw e
+
+pub closed_sound : (c : Bool) (l : List ℕ) (name : Option ℕ) {v : NameRead} → closed c name l ≡ Some v
+    → (n : ℕ) × (ended 93 name l ≡ Some n) × (record { critical = c; left = length l; size = n } ≡ v)
+closed_sound c l name e = mapped _ (ended 93 name l) e
 
 -- what follows a name and the byte that ends it
 pub past-name : (n : List ℕ) (b : ℕ) (l : List ℕ) → past (length n) (n ++ (b ∷ l)) ≡ l

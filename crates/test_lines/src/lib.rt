@@ -2,6 +2,5 @@
 #![tactic(auto)]
 
 pub mod answer;
-pub mod buffer;
 pub mod fields;
 pub mod judged;

@@ -1,31 +1,53 @@
-// Standard output by way of a lent buffer: what waits is written out when the next text has no room, and at the end. Each function
-// takes the count of bytes that wait and returns the new one. A text is shorter than the buffer. The only error is that of a write that
-// failed: what waited is then written in part or not at all, the buffer is as it was, and nothing more is printed.
+// Standard output by way of a fixed buffer: what waits is written out when the next text has no room, and at the end. A text is shorter
+// than the buffer. The only error is that of a write that failed: what waited is then written in part or not at all, the buffer is as it
+// was, and nothing more is printed.
 ghost use Rattle.std.specs.Prelude.{◌≡◌, OnErr};
 
+use arrayvec::ArrayVec;
 use itoa::Buffer;
 use std::io;
-use test_lines::buffer;
+use std::io::Write;
 
-pub fn flush(rt: &impl Print, out: &[u8], n: usize) -> io::Result<()> {
-    rt.write_all(buffer::between(out, 0, n))
+// So many bytes may wait to be written.
+const CHUNK: usize = 65536;
+
+#[derive(Drop)]
+pub struct Output<'a, R> {
+    rt: &'a R,
+    waiting: ArrayVec<u8, CHUNK>,
 }
 
-pub fn put_text(rt: &impl Print, out: &mut [u8], n: usize, s: &[u8]) -> io::Result<usize>
-    ensures { OnErr result (out.new ≡ out.old) }
-{
-    if n <= out.len() {
-        if s.len() <= out.len() - n {
-            return Ok(buffer::put_text(out, n, s));
+impl<'a, R: Print> Output<'a, R> {
+    pub fn new(rt: &'a R) -> Self {
+        Output {
+            rt,
+            waiting: ArrayVec::new(),
         }
     }
-    flush(rt, &out[..], n)?;
-    Ok(buffer::put_text(out, 0, s))
-}
 
-pub fn put_number(rt: &impl Print, out: &mut [u8], n: usize, value: u64) -> io::Result<usize>
-    ensures { OnErr result (out.new ≡ out.old) }
-{
-    let mut digits = Buffer::new();
-    put_text(rt, out, n, digits.format(value).as_bytes())
+    pub fn flush(&mut self) -> io::Result<()>
+        ensures { OnErr result (self.new ≡ self.old) }
+    {
+        self.rt.write_all(self.waiting.as_slice())?;
+        self.waiting.clear();
+        Ok(())
+    }
+
+    // Puts a text, or as much of it as there is room for.
+    pub fn put_text(&mut self, text: &[u8]) -> io::Result<()>
+        ensures { OnErr result (self.new ≡ self.old) }
+    {
+        if self.waiting.remaining_capacity() < text.len() {
+            self.flush()?;
+        }
+        let _ = self.waiting.write(text);
+        Ok(())
+    }
+
+    pub fn put_number(&mut self, number: u64) -> io::Result<()>
+        ensures { OnErr result (self.new ≡ self.old) }
+    {
+        let mut digits = Buffer::new();
+        self.put_text(digits.format(number).as_bytes())
+    }
 }

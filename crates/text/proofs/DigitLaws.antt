@@ -10,7 +10,7 @@
 --     span_of, span_more, length_span  digits from a place to a place
 --     split_more, split_div            a loop that splits a number into digits
 --     last_skip, last_found, last_le   the place of the last digit that is not 0
---     fraction-none, fraction-some     a fraction is nothing, or a point and digits
+--     fraction_none, fraction_some     a fraction is nothing, or a point and digits
 -- Assumes nothing.
 use mathlib.Core.Path.{◌≡◌, refl, sym, ap, ◌∙◌}
 use mathlib.Core.List.{List, [], ◌∷◌, ◌++◌, map-append, append-nil}
@@ -76,7 +76,7 @@ pub nine_pairs : (n : ℕ)
 nine_pairs n = let e : n / 1 % 10 ≡ n % 10 = omega arith in simp (div-div-eq-div-mul, e)
 
 -- one digit more of a span
-pub span_more : (f i : ℕ) (ds : List ℕ) → f ≤ i → i < length ds → shown (slice f i ds) ++ ((48 + get_or ds i 0) ∷ []) ≡ shown (slice f (i + 1) ds)
+pub span_more : (f i : ℕ) (ds : List ℕ) → f ≤ i → i < length ds → shown (slice f (i + 1) ds) ≡ shown (slice f i ds) ++ ((48 + get_or ds i 0) ∷ [])
 span_more f i ds h k =
     let e : length (take i ds) ≡ i = length-take-le i ds (omega arith) in
     let g : f ≤ length (take i ds) = omega arith in
@@ -197,15 +197,15 @@ pub decimal_back : (k n : ℕ) → n < 10 ^ k → value_of (unshown (decimal k n
 decimal_back k n h = ap value_of (unshown-shown (digits k n)) ∙ value_below k n h
 
 -- ---- a fraction: nothing, or a point and the digits
-pub fraction-none : (k : ℕ) (ds : List ℕ) → k ≡ 0 → fraction k ds ≡ []
+pub fraction_none : (k : ℕ) (ds : List ℕ) → k ≡ 0 → fraction k ds ≡ []
 unfolding fraction
-fraction-none k ds h = rw h
+fraction_none k ds h = rw h
 
-pub fraction-some : (k : ℕ) (ds : List ℕ) → (k ≡ 0 → ⊥) → k ≤ length ds → fraction k ds ≡ (46 ∷ []) ++ shown (slice 0 k ds)
+pub fraction_some : (k : ℕ) (ds : List ℕ) → (k ≡ 0 → ⊥) → k ≤ length ds → fraction k ds ≡ (46 ∷ []) ++ shown (slice 0 k ds)
 unfolding fraction
-fraction-some zero ds h l = absurd (h refl)
-fraction-some (suc k) [] h l = absurd (omega arith)
-fraction-some (suc k) (d ∷ ds) h l = refl
+fraction_some zero ds h l = absurd (h refl)
+fraction_some (suc k) [] h l = absurd (omega arith)
+fraction_some (suc k) (d ∷ ds) h l = refl
 
 pub length-fraction : (k : ℕ) (ds : List ℕ) → (k ≡ 0 → ⊥) → k ≤ length ds → length (fraction k ds) ≡ 1 + k
-length-fraction k ds h l = omega (arith, ap length (fraction-some k ds h l), length_span 0 k ds l)
+length-fraction k ds h l = omega (arith, ap length (fraction_some k ds h l), length_span 0 k ds l)

@@ -1,7 +1,7 @@
 -- What several proofs, and the crates above, cite.
 pub mod Tests
 pub mod WalkLaws
-pub mod PutLaws
+pub mod OutLaws
 pub mod DigitLaws
 pub mod NumberLaws
 pub mod Answers

@@ -14,11 +14,9 @@ fn low_nine(value: u32) -> [u8; 9]
 {
     let mut out = [0u8; 9];
     let mut rest = value;
-    let mut i = 9;
-    while i > 0 {
-        i -= 1;
+    for i in (0..9).rev() {
         out[i] = (rest % 10) as u8;
-        rest = rest / 10;
+        rest /= 10;
     }
     out
 }
@@ -27,12 +25,10 @@ fn low_nine(value: u32) -> [u8; 9]
 fn last_nonzero(ds: [u8; 9]) -> usize
     ensures { result ≡ last_nonzero ds }
 {
-    let mut i = 9;
-    while i > 0 {
-        if ds[i - 1] != 0 {
-            return i;
+    for i in (0..9).rev() {
+        if ds[i] != 0 {
+            return i + 1;
         }
-        i -= 1;
     }
     0
 }

@@ -6,7 +6,10 @@ ghost use Rattle.text.specs.Walk.{front, same_bytes};
 pub fn first(t: &[u8]) -> u8
     ensures { result ≡ front t.now }
 {
-    if 0 < t.len() { t[0] } else { 0 }
+    match t.first() {
+        Some(&b) => b,
+        None => 0,
+    }
 }
 
 // What is left after n bytes.
@@ -39,15 +42,5 @@ pub fn last(t: &[u8], n: usize) -> &[u8]
 pub fn same(t: &[u8], u: &[u8]) -> bool
     ensures { result ≡ same_bytes t.now u.now }
 {
-    if t.len() != u.len() {
-        return false;
-    }
-    let mut i = 0;
-    while i < t.len() {
-        if t[i] != u[i] {
-            return false;
-        }
-        i += 1;
-    }
-    true
+    t == u
 }

@@ -2,191 +2,153 @@
 --     time_exact, utc_exact         what is read is what is kept of a tree of the grammar, whatever may stand after its text; and the other way
 --     closed_quiet, utc_quiet       what may stand after a time: the end, `[`, or a UTC part that such a text follows
 -- Assumes nothing.
-use Prim.Native.Nat.{ℕ, ◌+◌, ◌-◌, ◌*◌, ◌/◌, ◌≤◌, ◌<◌}
+use Prim.Native.Nat.{ℕ, ◌+◌, ◌≤◌}
 use native.Mathlib.Omega.{arith}
-use mathlib.Core.Bool.{Bool, true, false, cond, ◌&&◌, ◌||◌, false≢true}
+use mathlib.Core.Bool.{Bool, true, false, cond, false≢true}
 use mathlib.Core.Path.{◌≡◌, refl, sym, ◌∙◌, ap}
-use mathlib.Core.List.{List, [], ◌∷◌, ◌++◌}
+use mathlib.Core.List.{List, ◌∷◌, ◌++◌}
 use lib.Dec.{ltb, eqb}
 use lib.ListN.{length, drop, length-map}
 use lib.Seq.{drop-drop, drop_at}
 use borrow.Author.Tests.{lt-ltb, ltb-true, eqb-true, eqb-false}
+use Rattle.std.specs.Prelude.{Option, Some, None, is_some}
 use Rattle.text.specs.Walk.{front}
-use Rattle.text.specs.Digits.{decimal, shown, AllDigits}
+use Rattle.text.specs.Digits.{decimal, shown}
 use Rattle.text.specs.Inverse.{Inverse}
-use Rattle.text.proofs.Answers.{both}
-use Rattle.names.specs.Grammar.{digit_byte, sign_byte}
+use Rattle.names.specs.Grammar.{sign_byte}
 use Rattle.names.specs.Field.{field}
 use Rattle.names.proofs.FieldLaws.{front-cons, field_text, field_sound}
-use Rattle.time_syntax.specs.declared.fraction.Fraction.{Fraction}
-use Rattle.time_syntax.specs.declared.Secs.{Secs}
+use Rattle.time_syntax.specs.declared.Seconds.{Seconds}
 use Rattle.time_syntax.specs.declared.TimeRead.{TimeRead}
 use Rattle.time_syntax.specs.declared.UtcRead.{UtcRead}
-use Rattle.time_syntax.specs.Read.{point_byte, digits_from, fraction_of, no_fraction, fraction_at, no_secs, secs_at, secs_good, time_fits, time_is, time_of, time, time_good, past, after_time, zulu_byte, offset_of, utc, utc_good, after_utc}
-use Rattle.time_syntax.specs.Syntax.{SecsTree, none, whole, part, TimeTree, secs_text, time_text, SecsOk, TimeOk, weighed, nanos_of, secs_kept, time_kept, Quiet, UtcTree, absent, zulu, offset, utc_text, UtcOk, utc_kept, Closed, ended, bracket}
-use Rattle.time_syntax.proofs.Bytes.{digit_range, digit-shown, one_of}
+use Rattle.time_syntax.specs.Read.{◌>>=◌, run, point_byte, fraction_of, fraction_at, minute_at, seconds_of, seconds_at, second_in, time, past_seconds, past, after_time, zulu_byte, offset_of, shifted, utc, after_utc}
+use Rattle.time_syntax.specs.Syntax.{SecsTree, none, whole, part, TimeTree, secs_text, time_text, SecsOk, TimeOk, secs_kept, time_is, time_kept, Quiet, UtcTree, absent, zulu, offset, utc_text, UtcOk, utc_kept, Closed, ended, bracket}
+use Rattle.time_syntax.proofs.Bytes.{one_of}
+use Rattle.time_syntax.proofs.RunLaws.{run_text, run_sound, fraction-run}
 
--- ---- the digits of a fraction, once over how many there are
+-- ---- what a step that may fail tells where it did not
 
-same : {p v u n m : ℕ} → v ≡ u → n ≡ m → ◌≡◌ {A = Fraction} (record { point = p; nanos = v; digits = n }) (record { point = p; nanos = u; digits = m })
-same {p} e f = λ i. record { point = p; nanos = e i; digits = f i }
+held : {A : Type 0} (b : Bool) {x k : A} → cond b (Some x) None ≡ Some k → (b ≡ true) × (k ≡ x)
+held true e = (refl, cc)
+held false e = cc
 
-module _ (p : ℕ) where
-  digits_text : (ds r : List ℕ) (n w v : ℕ) → AllDigits ds → digit_byte (front r) ≡ false
-      → digits_from p (shown ds ++ r) n w v ≡ record { point = p; nanos = v + weighed w ds; digits = n + length ds }
-  digits_text [] [] n w v a q = same (omega arith) (omega arith)
-  digits_text [] (b ∷ r) n w v a q = rw q (same (omega arith) (omega arith))
-  digits_text (d ∷ ds) r n w v a q =
-      let e : 48 + d - 48 ≡ d = omega arith in
-      rw (digit-shown d a.0, e) (digits_text ds r (n + 1) (w / 10) (v + d * w) a.1 q ∙ same (omega arith) (omega arith))
-
-  -- the other way: the digits that were read, and what is left
-  abbrev Digits : List ℕ → ℕ → ℕ → ℕ → Fraction → Type 0
-  Digits l n w v f =
-      (ds : List ℕ) × (r : List ℕ) × AllDigits ds × (l ≡ shown ds ++ r) × (f ≡ record { point = p; nanos = v + weighed w ds; digits = n + length ds })
-
-  digits_sound : (l : List ℕ) (n w v : ℕ) → Digits l n w v (digits_from p l n w v)
-  digits_sound [] n w v = ([], [], tt, refl, same (omega arith) (omega arith))
-  digits_sound (b ∷ l) n w v = go (digit_byte b) refl (digits_sound l (n + 1) (w / 10) (v + (b - 48) * w))
-    where
-      go : (t : Bool) → digit_byte b ≡ t → Digits l (n + 1) (w / 10) (v + (b - 48) * w) (digits_from p l (n + 1) (w / 10) (v + (b - 48) * w))
-          → Digits (b ∷ l) n w v (cond t (digits_from p l (n + 1) (w / 10) (v + (b - 48) * w)) (record { point = p; nanos = v; digits = n }))
-      go true e d =
-          let h = digit_range b e in
-          let x : b ≡ 48 + (b - 48) = omega (arith, h.0) in
-          let y = d.3 in
-          ((b - 48) ∷ d.0, d.1, (omega (arith, h.1), d.2), cc, d.4 ∙ same (omega arith) (omega arith))
-      go false e d = ([], b ∷ l, tt, refl, same (omega arith) (omega arith))
-
-  fraction_text : (ds r : List ℕ) → AllDigits ds → digit_byte (front r) ≡ false
-      → fraction_of p (shown ds ++ r) ≡ record { point = p; nanos = nanos_of ds; digits = length ds }
-  unfolding fraction_of nanos_of
-  fraction_text ds r a q = digits_text ds r 0 100000000 0 a q ∙ same (omega arith) (omega arith)
-
-  fraction_sound : (l : List ℕ) → (ds : List ℕ) × (r : List ℕ) × AllDigits ds × (l ≡ shown ds ++ r)
-      × (fraction_of p l ≡ record { point = p; nanos = nanos_of ds; digits = length ds })
-  unfolding fraction_of nanos_of
-  fraction_sound l = let d = digits_sound l 0 100000000 0 in (d.0, d.1, d.2, d.3, d.4 ∙ same (omega arith) (omega arith))
-
--- a point is not the end of a text
-point_some : (p : ℕ) → point_byte p ≡ true → eqb p 0 ≡ false
-point_some p e = one_of p 46 44 e (λ b. eqb b 0 ≡ false) refl refl
+some : {A B : Type 0} (o : Option A) (f : A → Option B) → is_some (o >>= f) ≡ true → (a : A) × (o ≡ Some a) × (is_some (f a) ≡ true)
+some None f e = absurd (false≢true e)
+some (Some a) f e = (a, refl, e)
 
 -- ---- what follows the minute
 
-secs_text_lem : (t : SecsTree) (r : List ℕ) → SecsOk t → Quiet r → secs_at (secs_text t ++ r) ≡ secs_kept t
-unfolding secs_at fraction_at
+secs_text_lem : (t : SecsTree) (r : List ℕ) → SecsOk t → Quiet r → seconds_at (secs_text t ++ r) ≡ Some (secs_kept t)
+unfolding seconds_at fraction_at
 secs_text_lem none r o q = rw q.colon
 secs_text_lem (whole s) r o q = rw (field_text 0 60 s r (omega arith) (omega arith) o, q.point)
 secs_text_lem (part s p ds) r o q =
-    rw (field_text 0 60 s (p ∷ shown ds ++ r) (omega (arith, o.0)) (omega arith) o.0, o.1, fraction_text p ds r o.3 q.digit)
-
-secs_good_lem : (t : SecsTree) → SecsOk t → secs_good (secs_kept t) ≡ true
-secs_good_lem none o = refl
-secs_good_lem (whole s) o = rw (lt-ltb s 100 (omega arith))
-secs_good_lem (part s p ds) o = rw (lt-ltb s 100 (omega (arith, o.0)), point_some p o.1, lt-ltb 0 (length ds) o.2)
+    rw (
+      field_text 0 60 s (p ∷ shown ds ++ r) (omega (arith, o.0)) (omega arith) o.0,
+      o.1,
+      fraction-run p (shown ds ++ r),
+      run_text ds r o.3 q.digit,
+      lt-ltb 0 (length ds) o.2,
+    )
 
 -- a tree whose text stands at the front of l, of which k was kept
 abbrev Stands : (Tree Kept : Type 0) → (Tree → Type 0) → (Tree → Kept) → (Tree → List ℕ) → List ℕ → Kept → Type 0
 Stands Tree Kept Ok kept text l k = (t : Tree) × (r : List ℕ) × Ok t × (k ≡ kept t) × (l ≡ text t ++ r)
 
-abbrev SecsStands : List ℕ → Secs → Type 0
-SecsStands = Stands SecsTree Secs SecsOk secs_kept secs_text
+abbrev SecsStands : List ℕ → Option Seconds → Type 0
+SecsStands = Stands SecsTree (Option Seconds) SecsOk secs_kept secs_text
 
 -- the text of the second and a fraction, from what follows the second
-after-second : (s : ℕ) (l : List ℕ) → s ≤ 60 → (eqb (fraction_at l).point 0 || ltb 0 (fraction_at l).digits) ≡ true
-    → SecsStands (58 ∷ decimal 2 s ++ l) (record { seconds = true; second = s; fraction = fraction_at l })
+after-second : (s : ℕ) (l : List ℕ) {k : Option Seconds} → s ≤ 60 → seconds_of (fraction_at l) s ≡ Some k → SecsStands (58 ∷ decimal 2 s ++ l) k
 unfolding fraction_at
-after-second s l h e = go (point_byte (front l)) refl e
+after-second s l {k} h e = go (point_byte (front l)) refl e
   where
-    go : (t : Bool) → point_byte (front l) ≡ t
-        → (eqb (cond t (fraction_of (front l) (drop 1 l)) no_fraction).point 0 || ltb 0 (cond t (fraction_of (front l) (drop 1 l)) no_fraction).digits) ≡ true
-        → SecsStands (58 ∷ decimal 2 s ++ l) (record { seconds = true; second = s; fraction = cond t (fraction_of (front l) (drop 1 l)) no_fraction })
-    go false f e = (whole s, l, h, refl, refl)
+    go : (t : Bool) → point_byte (front l) ≡ t → seconds_of (cond t (Some (fraction_of (front l) (drop 1 l))) None) s ≡ Some k
+        → SecsStands (58 ∷ decimal 2 s ++ l) k
+    go false f e = (whole s, l, h, cc, refl)
     go true f e =
-        let d = fraction_sound (front l) (drop 1 l) in
-        let x = point_some (front l) f in
-        let y : (eqb (front l) 0 || ltb 0 (length d.0)) ≡ true = rw d.4 at e in
-        let z : ltb 0 (length d.0) ≡ true = rw x at y in
+        let ds = run (drop 1 l) in
+        let d = run_sound (drop 1 l) in
+        let h' = held (ltb 0 (length ds)) {x = secs_kept (part s (front l) ds)} (rw (fraction-run (front l) (drop 1 l)) at e) in
+        let x = one_of (front l) 46 44 f (λ b. eqb b 0 ≡ false) refl refl in
         let u : l ≡ front l ∷ drop 1 l = front-cons l (eqb-false _ _ x) in
-        let v = d.3 in
-        (part s (front l) d.0, d.1, (h, f, ltb-true _ _ z, d.2), ap (λ (g : Fraction). record { seconds = true; second = s; fraction = g }) d.4, cc)
+        let v = d.1 in
+        (part s (front l) ds, drop (length ds) (drop 1 l), (h, f, ltb-true _ _ h'.0, d.0), h'.1, cc)
 
-secs_sound : (l : List ℕ) → secs_good (secs_at l) ≡ true → SecsStands l (secs_at l)
-unfolding secs_at
-secs_sound l e = go (eqb (front l) 58) refl e
+secs_sound : (l : List ℕ) {k : Option Seconds} → seconds_at l ≡ Some k → SecsStands l k
+unfolding seconds_at
+secs_sound l {k} e = go (eqb (front l) 58) refl (field 0 60 (drop 1 l)) refl e
   where
-    go : (t : Bool) → eqb (front l) 58 ≡ t
-        → secs_good (cond t (record { seconds = true; second = field 0 60 (drop 1 l); fraction = fraction_at (drop 3 l) }) no_secs) ≡ true
-        → SecsStands l (cond t (record { seconds = true; second = field 0 60 (drop 1 l); fraction = fraction_at (drop 3 l) }) no_secs)
-    go false f e = (none, l, tt, refl, refl)
-    go true f e =
-        let b = both (ltb (field 0 60 (drop 1 l)) 100) _ e in
-        let s = field_sound 0 60 (drop 1 l) (ltb-true _ _ b.0) in
+    go : (t : Bool) → eqb (front l) 58 ≡ t → (n : Option ℕ) → field 0 60 (drop 1 l) ≡ n
+        → cond t (n >>= seconds_of (fraction_at (drop 3 l))) (Some None) ≡ Some k → SecsStands l k
+    go false f n g e = (none, l, tt, cc, refl)
+    go true f None g e = cc
+    go true f (Some s) g e =
+        let n = field_sound 0 60 (drop 1 l) g in
         let x : front l ≡ 58 = eqb-true (front l) 58 f in
         let u : l ≡ front l ∷ drop 1 l = front-cons l (λ z. omega arith) in
         let w : drop 2 (drop 1 l) ≡ drop 3 l = drop-drop 2 1 l in
-        let y = s.2 in
-        let z : l ≡ 58 ∷ decimal 2 (field 0 60 (drop 1 l)) ++ drop 3 l = cc in
-        let a = after-second (field 0 60 (drop 1 l)) (drop 3 l) s.1 b.1 in
+        let y = n.3 in
+        let z : l ≡ 58 ∷ decimal 2 s ++ drop 3 l = cc in
+        let a = after-second s (drop 3 l) n.1 e in
         (a.0, a.1, a.2, a.3, z ∙ a.4)
 
 -- ---- the time
 
 time_text_lem : (t : TimeTree) (r : List ℕ) → TimeOk t → Quiet r → time (time_text t ++ r) ≡ time_kept t
-unfolding time time_of time_text time_kept
+unfolding time minute_at time_text time_kept
 time_text_lem t r o q =
     rw (
       field_text 0 23 t.hour (58 ∷ decimal 2 t.minute ++ secs_text t.secs ++ r) (omega (arith, o.hour)) (omega arith) o.hour,
       field_text 0 59 t.minute (secs_text t.secs ++ r) (omega (arith, o.minute)) (omega arith) o.minute,
       secs_text_lem t.secs r o.secs q,
-      lt-ltb t.hour 100 (omega (arith, o.hour)),
-      lt-ltb t.minute 100 (omega (arith, o.minute)),
-      secs_good_lem t.secs o.secs,
     )
 
 time-past : (t : TimeTree) (r : List ℕ) → TimeOk t → after_time (time_kept t) (time_text t ++ r) ≡ r
 unfolding time_kept time_text past
 time-past t r o = go t.secs o.secs
   where
-    go : (s : SecsTree) → SecsOk s → past (secs_kept s).seconds (secs_kept s).fraction.point (secs_kept s).fraction.digits
-        (decimal 2 t.hour ++ (58 ∷ decimal 2 t.minute ++ secs_text s) ++ r) ≡ r
+    go : (s : SecsTree) → SecsOk s → past_seconds (secs_kept s) (secs_text s ++ r) ≡ r
     go none o = refl
     go (whole s) o = refl
-    go (part s p ds) o = rw (point_some p o.1) (drop_at (shown ds) r (length ds) (length-map ds (λ d. 48 + d)))
+    go (part s p ds) o = drop_at (shown ds) r (length ds) (length-map ds (λ d. 48 + d))
 
--- where something was read, its parts are of the grammar
-good_fits : (t : Bool) (h m : ℕ) (s : Secs) → time_good (cond t (time_is h m s) TimeRead.Bad) ≡ true → t ≡ true
-good_fits true h m s e = refl
-good_fits false h m s e = e
+minute_sound : (l : List ℕ) {m : ℕ} → minute_at l ≡ Some m → (m ≤ 59) × (l ≡ 58 ∷ decimal 2 m ++ drop 3 l)
+unfolding minute_at
+minute_sound l {m} e = go (eqb (front l) 58) refl e
+  where
+    go : (t : Bool) → eqb (front l) 58 ≡ t → cond t (field 0 59 (drop 1 l)) None ≡ Some m → (m ≤ 59) × (l ≡ 58 ∷ decimal 2 m ++ drop 3 l)
+    go false f e = cc
+    go true f e =
+        let n = field_sound 0 59 (drop 1 l) e in
+        let x : front l ≡ 58 = eqb-true (front l) 58 f in
+        let u : l ≡ front l ∷ drop 1 l = front-cons l (λ z. omega arith) in
+        let w : drop 2 (drop 1 l) ≡ drop 3 l = drop-drop 2 1 l in
+        let y = n.3 in
+        (n.1, cc)
 
-fits_parts : (h b m : ℕ) (s : Secs) → time_fits h b m s ≡ true → (h < 100) × (b ≡ 58) × (m < 100) × (secs_good s ≡ true)
-fits_parts h b m s e =
-    let x = both (ltb h 100 && eqb b 58 && ltb m 100) (secs_good s) e in
-    let y = both (ltb h 100 && eqb b 58) (ltb m 100) x.0 in
-    let z = both (ltb h 100) (eqb b 58) y.0 in
-    (ltb-true _ _ z.0, eqb-true _ _ z.1, ltb-true _ _ y.1, x.1)
+time_of : (l : List ℕ) {h m : ℕ} {s : Option Seconds} → field 0 23 l ≡ Some h → minute_at (drop 2 l) ≡ Some m → seconds_at (drop 5 l) ≡ Some s
+    → time l ≡ Some (record { hour = h; minute = m; seconds = s })
+unfolding time
+time_of l e f g = rw (e, f, g)
 
-time_stands : (l : List ℕ) → time_good (time l) ≡ true → Stands TimeTree TimeRead TimeOk time_kept time_text l (time l)
-unfolding time time_of time_kept time_text
+time_stands : (l : List ℕ) → is_some (time l) ≡ true → Stands TimeTree (Option TimeRead) TimeOk time_kept time_text l (time l)
+unfolding time time_kept time_text
 time_stands l e =
-    let f = good_fits (time_fits (field 0 23 l) (front (drop 2 l)) (field 0 59 (drop 3 l)) (secs_at (drop 5 l))) _ _ _ e in
-    let p = fits_parts (field 0 23 l) (front (drop 2 l)) (field 0 59 (drop 3 l)) (secs_at (drop 5 l)) f in
-    let h = field_sound 0 23 l p.0 in
-    let m = field_sound 0 59 (drop 3 l) p.2 in
-    let s = secs_sound (drop 5 l) p.3 in
-    let x = p.1 in
-    let u : drop 2 l ≡ front (drop 2 l) ∷ drop 1 (drop 2 l) = front-cons (drop 2 l) (λ z. omega arith) in
-    let v : drop 1 (drop 2 l) ≡ drop 3 l = drop-drop 1 2 l in
-    let w : drop 2 (drop 3 l) ≡ drop 5 l = drop-drop 2 3 l in
-    let y = h.2 in
-    let z = m.2 in
-    let q = s.4 in (
-      record { hour = field 0 23 l; minute = field 0 59 (drop 3 l); secs = s.0 },
-      s.1,
-      record { hour = h.1; minute = m.1; secs = s.2 },
-      ap (λ (t : Bool). cond t (time_is (field 0 23 l) (field 0 59 (drop 3 l)) (secs_at (drop 5 l))) TimeRead.Bad) f
-          ∙ ap (time_is (field 0 23 l) (field 0 59 (drop 3 l))) s.3,
+    let h = some (field 0 23 l) _ e in
+    let m = some (minute_at (drop 2 l)) _ h.2 in
+    let s = some (seconds_at (drop 5 l)) _ m.2 in
+    let x = field_sound 0 23 l h.1 in
+    let y = minute_sound (drop 2 l) m.1 in
+    let z = secs_sound (drop 5 l) s.1 in
+    let w : drop 3 (drop 2 l) ≡ drop 5 l = drop-drop 3 2 l in
+    let u = x.3 in
+    let v = y.1 in
+    let q = z.4 in (
+      record { hour = h.0; minute = m.0; secs = z.0 },
+      z.1,
+      record { hour = x.1; minute = y.0; secs = z.2 },
+      time_of l h.1 m.1 s.1 ∙ ap (λ (s : Option Seconds). Some (record { hour = h.0; minute = m.0; seconds = s })) z.3,
       cc,
     )
 
@@ -198,7 +160,7 @@ left Ok kept text after p l k (t, r, o, e, x) =
     let y : after k l ≡ r = ap (λ k. after k l) e ∙ ap (after (kept t)) x ∙ p t r o in
     (t, o, e, x ∙ ap (λ (r : List ℕ). text t ++ r) (sym y))
 
-pub time_exact : Inverse TimeTree TimeRead time time_good after_time time_text TimeOk time_kept Quiet
+pub time_exact : Inverse TimeTree (Option TimeRead) time is_some after_time time_text TimeOk time_kept Quiet
 unfolding time_kept
 time_exact =
     record {
@@ -225,11 +187,11 @@ utc_quiet (offset false t) o c = record { colon = refl; point = refl; digit = re
 -- ---- how a time stands to UTC
 
 -- an offset is read from what is kept of its time
-offset_kept : (negative : Bool) (t : TimeTree) → (secs_kept t.secs).second ≤ 59 → offset_of negative (time_kept t) ≡ utc_kept (offset negative t)
+offset_kept : (negative : Bool) (t : TimeTree) → second_in (secs_kept t.secs) ≤ 59 → shifted (time_kept t >>= offset_of negative) ≡ utc_kept (offset negative t)
 unfolding time_kept utc_kept
-offset_kept negative t h = rw (lt-ltb (secs_kept t.secs).second 60 (omega arith))
+offset_kept negative t h = rw (lt-ltb (second_in (secs_kept t.secs)) 60 (omega arith))
 
-closed_absent : {r : List ℕ} → Closed r → utc r ≡ UtcRead.Absent
+closed_absent : {r : List ℕ} → Closed r → utc r ≡ Some None
 unfolding utc
 closed_absent ended = refl
 closed_absent (bracket l) = refl
@@ -248,25 +210,27 @@ utc-past (zulu b) r o = refl
 utc-past (offset negative t) r o = time-past t r o.0
 
 -- where an offset was read, a time was, and its second is at most 59
-good_offset : (negative : Bool) (t : TimeRead) → utc_good (offset_of negative t) ≡ true → time_good t ≡ true
-good_offset negative (TimeRead.Is h m t s p v n) e = refl
-good_offset negative TimeRead.Bad e = e
+good_offset : (negative : Bool) (t : Option TimeRead) → is_some (shifted (t >>= offset_of negative)) ≡ true → is_some t ≡ true
+good_offset negative (Some t) e = refl
+good_offset negative None e = e
 
-offset_second : (negative : Bool) (t : TimeTree) → utc_good (offset_of negative (time_kept t)) ≡ true → (secs_kept t.secs).second ≤ 59
+offset_second : (negative : Bool) (t : TimeTree) → is_some (shifted (time_kept t >>= offset_of negative)) ≡ true → second_in (secs_kept t.secs) ≤ 59
 unfolding time_kept utc_kept
-offset_second negative t e = go (ltb (secs_kept t.secs).second 60) refl e
+offset_second negative t e = go (ltb (second_in (secs_kept t.secs)) 60) refl e
   where
-    go : (b : Bool) → ltb (secs_kept t.secs).second 60 ≡ b → utc_good (cond b (utc_kept (offset negative t)) UtcRead.Bad) ≡ true → (secs_kept t.secs).second ≤ 59
-    go true f e = omega (arith, ltb-true (secs_kept t.secs).second 60 f)
+    go : (b : Bool) → ltb (second_in (secs_kept t.secs)) 60 ≡ b → is_some (shifted (cond b (Some (record { negative = negative; time = time_is t })) None)) ≡ true
+        → second_in (secs_kept t.secs) ≤ 59
+    go true f e = omega (arith, ltb-true (second_in (secs_kept t.secs)) 60 f)
     go false f e = absurd (false≢true e)
 
-utc_stands : (l : List ℕ) → utc_good (utc l) ≡ true → Stands UtcTree UtcRead UtcOk utc_kept utc_text l (utc l)
+utc_stands : (l : List ℕ) → is_some (utc l) ≡ true → Stands UtcTree (Option (Option UtcRead)) UtcOk utc_kept utc_text l (utc l)
 unfolding utc utc_text utc_kept
 utc_stands l e = go (zulu_byte (front l)) refl (sign_byte (front l)) refl e
   where
     go : (z : Bool) → zulu_byte (front l) ≡ z → (s : Bool) → sign_byte (front l) ≡ s
-        → utc_good (cond z (UtcRead.Z (front l)) (cond s (offset_of (eqb (front l) 45) (time (drop 1 l))) UtcRead.Absent)) ≡ true
-        → Stands UtcTree UtcRead UtcOk utc_kept utc_text l (cond z (UtcRead.Z (front l)) (cond s (offset_of (eqb (front l) 45) (time (drop 1 l))) UtcRead.Absent))
+        → is_some (cond z (Some (Some (UtcRead.Z (front l)))) (cond s (shifted (time (drop 1 l) >>= offset_of (eqb (front l) 45))) (Some None))) ≡ true
+        → Stands UtcTree (Option (Option UtcRead)) UtcOk utc_kept utc_text l
+        (cond z (Some (Some (UtcRead.Z (front l)))) (cond s (shifted (time (drop 1 l) >>= offset_of (eqb (front l) 45))) (Some None)))
     go true f s g e =
         let x : eqb (front l) 0 ≡ false = one_of (front l) 90 122 f (λ b. eqb b 0 ≡ false) refl refl in
         (zulu (front l), drop 1 l, f, refl, front-cons l (eqb-false _ _ x))
@@ -275,13 +239,13 @@ utc_stands l e = go (zulu_byte (front l)) refl (sign_byte (front l)) refl e
         let x : eqb (front l) 0 ≡ false = one_of (front l) 43 45 g (λ b. eqb b 0 ≡ false) refl refl in
         let y : cond (eqb (front l) 45) 45 43 ≡ front l = one_of (front l) 43 45 g (λ b. cond (eqb b 45) 45 43 ≡ b) refl refl in
         let t = time_stands (drop 1 l) (good_offset negative (time (drop 1 l)) e) in
-        let h = offset_second negative t.0 (ap (λ (k : TimeRead). utc_good (offset_of negative k)) (sym t.3) ∙ e) in
+        let h = offset_second negative t.0 (ap (λ (k : Option TimeRead). is_some (shifted (k >>= offset_of negative))) (sym t.3) ∙ e) in
         let u : l ≡ front l ∷ drop 1 l = front-cons l (eqb-false _ _ x) in
         let v = t.4 in
-        (offset negative t.0, t.1, (t.2, h), ap (offset_of negative) t.3 ∙ offset_kept negative t.0 h, cc)
+        (offset negative t.0, t.1, (t.2, h), ap (λ (k : Option TimeRead). shifted (k >>= offset_of negative)) t.3 ∙ offset_kept negative t.0 h, cc)
     go false f false g e = (absent, l, tt, refl, refl)
 
-pub utc_exact : Inverse UtcTree UtcRead utc utc_good after_utc utc_text UtcOk utc_kept Closed
+pub utc_exact : Inverse UtcTree (Option (Option UtcRead)) utc is_some after_utc utc_text UtcOk utc_kept Closed
 unfolding utc_kept
 utc_exact =
     record {
@@ -291,7 +255,7 @@ utc_exact =
       sound = λ l e. left UtcOk utc_kept utc_text after_utc utc-past l (utc l) (utc_stands l e);
     }
   where
-    utc_good_lem : (u : UtcTree) → UtcOk u → utc_good (utc_kept u) ≡ true
+    utc_good_lem : (u : UtcTree) → UtcOk u → is_some (utc_kept u) ≡ true
     utc_good_lem absent o = refl
     utc_good_lem (zulu b) o = refl
     utc_good_lem (offset negative t) o = refl

@@ -1,13 +1,13 @@
 -- The grammar of a time of day and of what says how it stands to UTC, as document 01 has it: the syntax trees, the text of each, which trees
 -- are of the grammar, and what a reader keeps of them. Assumes nothing: these are definitions.
-use Rattle.std.specs.Prelude.{ℕ, ◌+◌, ◌*◌, ◌/◌, ◌≤◌, ◌<◌, Bool, true, false, cond, ◌≡◌, List, [], ◌∷◌, ◌++◌, eqb, length}
+use Rattle.std.specs.Prelude.{ℕ, ◌+◌, ◌*◌, ◌/◌, ◌≤◌, ◌<◌, Bool, true, false, cond, ◌≡◌, List, [], ◌∷◌, ◌++◌, eqb, length, Option, Some, None}
 use Rattle.text.specs.Walk.{front}
 use Rattle.text.specs.Digits.{decimal, shown, AllDigits}
 use Rattle.names.specs.Grammar.{digit_byte}
-use Rattle.time_syntax.specs.declared.Secs.{Secs}
+use Rattle.time_syntax.specs.declared.Seconds.{Seconds}
 use Rattle.time_syntax.specs.declared.TimeRead.{TimeRead}
 use Rattle.time_syntax.specs.declared.UtcRead.{UtcRead}
-use Rattle.time_syntax.specs.Read.{point_byte, zulu_byte, no_fraction, no_secs, time_is}
+use Rattle.time_syntax.specs.Read.{point_byte, zulu_byte, second_in}
 
 -- ---- a time: `HH:MM`, `HH:MM:SS`, or the latter with `.` or `,` and one or more digits
 
@@ -51,13 +51,16 @@ weighed w (d ∷ ds) = d * w + weighed (w / 10) ds
 unfoldable pub nanos_of : List ℕ → ℕ
 nanos_of ds = weighed 100000000 ds
 
-abbrev pub secs_kept : SecsTree → Secs
-secs_kept none = no_secs
-secs_kept (whole s) = record { seconds = true; second = s; fraction = no_fraction }
-secs_kept (part s p ds) = record { seconds = true; second = s; fraction = record { point = p; nanos = nanos_of ds; digits = length ds } }
+abbrev pub secs_kept : SecsTree → Option Seconds
+secs_kept none = None
+secs_kept (whole s) = Some (record { second = s; fraction = None })
+secs_kept (part s p ds) = Some (record { second = s; fraction = Some (record { point = p; nanos = nanos_of ds; digits = length ds }) })
 
-unfoldable pub time_kept : TimeTree → TimeRead
-time_kept t = time_is t.hour t.minute (secs_kept t.secs)
+abbrev pub time_is : TimeTree → TimeRead
+time_is t = record { hour = t.hour; minute = t.minute; seconds = secs_kept t.secs }
+
+unfoldable pub time_kept : TimeTree → Option TimeRead
+time_kept t = Some (time_is t)
 
 -- what may stand after a time: no `:`, no point and no digit
 pub record Quiet (l : List ℕ) : Type 0 where
@@ -81,25 +84,12 @@ utc_text (offset negative t) = cond negative 45 43 ∷ time_text t
 abbrev pub UtcOk : UtcTree → Type 0
 UtcOk absent = Unit {0}
 UtcOk (zulu b) = zulu_byte b ≡ true
-UtcOk (offset negative t) = TimeOk t × ((secs_kept t.secs).second ≤ 59)
+UtcOk (offset negative t) = TimeOk t × (second_in (secs_kept t.secs) ≤ 59)
 
-abbrev pub offset_is : Bool → ℕ → ℕ → Secs → UtcRead
-offset_is negative h m s =
-    UtcRead.Offset (record {
-      negative = negative;
-      hour = h;
-      minute = m;
-      seconds = s.seconds;
-      second = s.second;
-      point = s.fraction.point;
-      nanos = s.fraction.nanos;
-      digits = s.fraction.digits;
-    })
-
-unfoldable pub utc_kept : UtcTree → UtcRead
-utc_kept absent = UtcRead.Absent
-utc_kept (zulu b) = UtcRead.Z b
-utc_kept (offset negative t) = offset_is negative t.hour t.minute (secs_kept t.secs)
+unfoldable pub utc_kept : UtcTree → Option (Option UtcRead)
+utc_kept absent = Some None
+utc_kept (zulu b) = Some (Some (UtcRead.Z b))
+utc_kept (offset negative t) = Some (Some (UtcRead.Offset (record { negative = negative; time = time_is t })))
 
 -- what may stand after that: the end of the text, or `[`
 pub data Closed : List ℕ → Type 0 where

@@ -2,217 +2,165 @@
 #![tactic(auto)]
 
 ghost use Rattle.std.specs.Prelude.{◌≡◌};
-ghost use Rattle.time_syntax.specs.Read.{secs_at, secs_good, time_fits, time_of, time, base_of, past, after_time, zulu_byte, offset_of, utc, after_utc};
+ghost use Rattle.time_syntax.specs.Read.{minute_at, seconds_at, past_seconds, time, second_in, fraction_in, nanos_in, digits_in, past, offset_of, utc, past_utc};
 
 pub mod fraction;
 
 use fraction::Fraction;
 
-// What follows `HH:MM`: whether `:SS` is there, its second (100 where it is none), and the fraction; all 0 where there is nothing.
-#[derive(Clone, Copy)]
-pub struct Secs {
-    pub seconds: bool,
+// What follows the minute: a second, and its fraction where it has one.
+#[derive(Clone, Copy, Debug, PartialEq, Eq)]
+pub struct Seconds {
     pub second: u8,
-    pub fraction: Fraction,
+    pub fraction: Option<Fraction>,
 }
 
-pub fn secs_at(t: &[u8]) -> Secs
-    ensures { result ≡ secs_at t.now }
-{
-    if text::walk::first(t) == b':' {
-        return Secs {
-            seconds: true,
-            second: names::field::two(text::walk::rest(t, 1), 0, 60),
-            fraction: fraction::fraction_at(text::walk::rest(t, 3)),
-        };
-    }
-    Secs {
-        seconds: false,
-        second: 0,
-        fraction: Fraction {
-            point: 0,
-            nanos: 0,
-            digits: 0,
-        },
-    }
-}
-
-// A second was read, and a point has digits.
-pub fn secs_good(s: Secs) -> bool
-    ensures { result ≡ secs_good s }
-{
-    (s.second < 100) & ((s.fraction.point == 0) | (0 < s.fraction.digits))
-}
-
-// The parts of a time are all of the grammar.
-pub fn time_fits(hour: u8, mark: u8, minute: u8, s: Secs) -> bool
-    ensures { result ≡ time_fits hour mark minute s }
-{
-    (hour < 100) & (mark == b':') & (minute < 100) & secs_good(s)
-}
-
-// A time that was read. Whether `:SS` is there; the byte of the point, or 0; the digits of the fraction, and the nanoseconds that the first nine make.
-#[derive(Clone, Copy)]
-pub enum TimeRead {
-    Is {
-        hour: u8,
-        minute: u8,
-        seconds: bool,
-        second: u8,
-        point: u8,
-        nanos: u32,
-        digits: usize,
-    },
-    Bad,
-}
-
-pub fn time_of(hour: u8, mark: u8, minute: u8, s: Secs) -> TimeRead
-    ensures { result ≡ time_of hour mark minute s }
-{
-    if time_fits(hour, mark, minute, s) {
-        return TimeRead::Is {
-            hour,
-            minute,
-            seconds: s.seconds,
-            second: s.second,
-            point: s.fraction.point,
-            nanos: s.fraction.nanos,
-            digits: s.fraction.digits,
-        };
-    }
-    TimeRead::Bad
-}
-
-// The time at the front.
-pub fn read_time(t: &[u8]) -> TimeRead
-    ensures { result ≡ time t.now }
-{
-    let hour = names::field::two(t, 0, 23);
-    let mark = text::walk::first(text::walk::rest(t, 2));
-    let minute = names::field::two(text::walk::rest(t, 3), 0, 59);
-    time_of(hour, mark, minute, secs_at(text::walk::rest(t, 5)))
-}
-
-// The bytes of a time, but for the digits of its fraction.
-pub fn base_of(seconds: bool, point: u8) -> usize
-    ensures { result ≡ base_of seconds point }
-{
-    if seconds {
-        if point == 0 {
-            return 8;
-        }
-        return 9;
-    }
-    5
-}
-
-// What follows a time of such a shape. Lengths are not added: what is dropped is dropped twice.
-pub fn past_shape<'a>(t: &'a [u8], seconds: bool, point: u8, digits: usize) -> &'a [u8]
-    ensures { result.now ≡ past seconds point digits t.now }
-{
-    text::walk::rest(text::walk::rest(t, base_of(seconds, point)), digits)
-}
-
-// What follows the time at the front; the whole text where there is none.
-pub fn after_time<'a>(t: &'a [u8], r: TimeRead) -> &'a [u8]
-    ensures { result.now ≡ after_time r t.now }
-{
-    match r {
-        TimeRead::Is {
-            hour: _,
-            minute: _,
-            seconds,
-            second: _,
-            point,
-            nanos: _,
-            digits,
-        } => past_shape(t, seconds, point, digits),
-        TimeRead::Bad => t,
-    }
+// A time that was read.
+#[derive(Clone, Copy, Debug, PartialEq, Eq)]
+pub struct TimeRead {
+    pub hour: u8,
+    pub minute: u8,
+    pub seconds: Option<Seconds>,
 }
 
 // An offset that was read: its sign, and a time.
-#[derive(Clone, Copy)]
+#[derive(Clone, Copy, Debug, PartialEq, Eq)]
 pub struct OffsetRead {
     pub negative: bool,
-    pub hour: u8,
-    pub minute: u8,
-    pub seconds: bool,
-    pub second: u8,
-    pub point: u8,
-    pub nanos: u32,
-    pub digits: usize,
+    pub time: TimeRead,
 }
 
-// How a time stands to UTC: nothing is said, `Z` in either case, or an offset. Bad where a sign has no offset of the grammar.
-#[derive(Clone, Copy)]
+// How a time stands to UTC: `Z` in either case, or an offset.
+#[derive(Clone, Copy, Debug, PartialEq, Eq)]
 pub enum UtcRead {
-    Absent,
     Z(u8),
     Offset(OffsetRead),
-    Bad,
 }
 
-// `Z` or `z`.
-pub fn is_zulu(b: u8) -> bool
-    ensures { result ≡ zulu_byte b }
+// `:MM`.
+#[tactic(auto, unfolding(crate::specs::Read::minute_at))]
+fn minute_at(t: &[u8]) -> Option<u8>
+    ensures { result ≡ minute_at t.now }
 {
-    (b == b'Z') | (b == b'z')
+    match t {
+        [b':', minute @ ..] => names::field::two(minute, 0, 59),
+        _ => None,
+    }
 }
 
-// An offset from its sign and the time after it. Its second is at most 59.
-pub fn offset_of(negative: bool, t: TimeRead) -> UtcRead
-    ensures { result ≡ offset_of negative t }
+// What may follow the minute: nothing, or `:SS` and perhaps a fraction. None of the grammar where no second follows `:`, or no digit a point.
+#[tactic(auto, unfolding(crate::specs::Read::seconds_at))]
+fn seconds_at(t: &[u8]) -> Option<Option<Seconds>>
+    ensures { result ≡ seconds_at t.now }
 {
-    let TimeRead::Is {
+    let [b':', seconds @ ..] = t else {
+        return Some(None);
+    };
+    let second = names::field::two(seconds, 0, 60)?;
+    let fraction = fraction::fraction_at(text::walk::rest(seconds, 2));
+    if fraction::has_digits(fraction) {
+        Some(Some(Seconds { second, fraction }))
+    } else {
+        None
+    }
+}
+
+// The time at the front.
+#[tactic(auto, unfolding(crate::specs::Read::time))]
+pub fn read_time(t: &[u8]) -> Option<TimeRead>
+    ensures { result ≡ time t.now }
+{
+    let hour = names::field::two(t, 0, 23)?;
+    let minute = minute_at(text::walk::rest(t, 2))?;
+    let seconds = seconds_at(text::walk::rest(t, 5))?;
+    Some(TimeRead {
         hour,
         minute,
         seconds,
-        second,
-        point,
-        nanos,
-        digits,
-    } = t
-    else {
-        return UtcRead::Bad;
-    };
-    if second < 60 {
-        return UtcRead::Offset(OffsetRead {
-            negative,
-            hour,
-            minute,
-            seconds,
-            second,
-            point,
-            nanos,
-            digits,
-        });
-    }
-    UtcRead::Bad
+    })
 }
 
-// What follows a time.
-pub fn read_utc(t: &[u8]) -> UtcRead
+impl TimeRead {
+    // The second; 0 where there is none.
+    pub fn second(self) -> u8
+        ensures { result ≡ second_in self.seconds }
+    {
+        self.seconds.map_or(0, |s| s.second)
+    }
+
+    // The fraction of its second.
+    pub fn fraction(self) -> Option<Fraction>
+        ensures { result ≡ fraction_in self.seconds }
+    {
+        self.seconds.and_then(|s| s.fraction)
+    }
+
+    // The nanoseconds of the fraction; 0 where there is none.
+    pub fn nanos(self) -> u32
+        ensures { result ≡ nanos_in (fraction_in self.seconds) }
+    {
+        self.fraction().map_or(0, |f| f.nanos)
+    }
+
+    // How many digits the fraction has.
+    pub fn digits(self) -> usize
+        ensures { result ≡ digits_in (fraction_in self.seconds) }
+    {
+        self.fraction().map_or(0, |f| f.digits)
+    }
+
+    // What follows the time in a text that it stands at the front of.
+    #[tactic(auto, unfolding(crate::specs::Read::past))]
+    pub fn past(self, t: &[u8]) -> &[u8]
+        ensures { result.now ≡ past self t.now }
+    {
+        past_seconds(text::walk::rest(t, 5), self.seconds)
+    }
+}
+
+// What follows a second and its fraction, where they stand.
+fn past_seconds(t: &[u8], s: Option<Seconds>) -> &[u8]
+    ensures { result.now ≡ past_seconds s t.now }
+{
+    match s {
+        Some(s) => fraction::past_fraction(text::walk::rest(t, 3), s.fraction),
+        None => t,
+    }
+}
+
+// An offset from its sign and the time after it. Its second is at most 59.
+pub fn offset_of(negative: bool, time: TimeRead) -> Option<OffsetRead>
+    ensures { result ≡ offset_of negative time }
+{
+    if time.second() < 60 {
+        Some(OffsetRead { negative, time })
+    } else {
+        None
+    }
+}
+
+// What may follow a time: nothing, `Z`, or an offset. None of the grammar where a sign has no offset.
+#[tactic(auto, unfolding(crate::specs::Read::utc))]
+pub fn read_utc(t: &[u8]) -> Option<Option<UtcRead>>
     ensures { result ≡ utc t.now }
 {
-    let b = text::walk::first(t);
-    if is_zulu(b) {
-        return UtcRead::Z(b);
+    match t {
+        [b @ (b'Z' | b'z'), ..] => Some(Some(UtcRead::Z(*b))),
+        [b @ (b'+' | b'-'), time @ ..] => {
+            let offset = offset_of(*b == b'-', read_time(time)?)?;
+            Some(Some(UtcRead::Offset(offset)))
+        }
+        _ => Some(None),
     }
-    if names::class::is_sign(b) {
-        return offset_of(b == b'-', read_time(text::walk::rest(t, 1)));
-    }
-    UtcRead::Absent
 }
 
 // What follows that; the whole text where there is nothing.
-pub fn after_utc<'a>(t: &'a [u8], r: UtcRead) -> &'a [u8]
-    ensures { result.now ≡ after_utc r t.now }
+pub fn past_utc(t: &[u8], u: Option<UtcRead>) -> &[u8]
+    ensures { result.now ≡ past_utc u t.now }
 {
-    match r {
-        UtcRead::Absent => t,
-        UtcRead::Z(_) => text::walk::rest(t, 1),
-        UtcRead::Offset(o) => past_shape(text::walk::rest(t, 1), o.seconds, o.point, o.digits),
-        UtcRead::Bad => t,
+    match u {
+        Some(UtcRead::Z(_)) => text::walk::rest(t, 1),
+        Some(UtcRead::Offset(o)) => o.time.past(text::walk::rest(t, 1)),
+        None => t,
     }
 }

@@ -1,36 +1,22 @@
--- The lengths of a time's texts, and what the test of a time tells. Assumes nothing.
---     length-seconds, length-time    one law for each text, which the rooms of its writer and its length function both go by
---     shows                          what `unless_minute` shows in each arm of a match
---     clock_in, time_in              the fields of a time that passes its test
---     time_most                      the longest time
-use mathlib.Core.Path.{◌≡◌, ap}
+-- What the test of a time tells, and the longest time. Assumes nothing.
+--     clock_in, time_in    the fields of a time that passes its test
+--     time_most            the longest time
+use mathlib.Core.Path.{◌≡◌}
 use mathlib.Core.Bool.{true}
 use mathlib.Core.List.{List}
-use Prim.Native.Nat.{ℕ, ◌+◌, ◌≤◌}
+use Prim.Native.Nat.{ℕ, ◌≤◌}
 use native.Mathlib.Omega.{arith}
 use borrow.Author.Tests.{leb-true}
 use lib.ListN.{length, length-append}
-use Rattle.text.specs.Put.{mark}
-use Rattle.text.proofs.PutLaws.{mark_most}
+use Rattle.text.proofs.OutLaws.{mark_most}
 use Rattle.text.proofs.Answers.{both}
 use Rattle.record.specs.declared.stamp.Precision.{Precision}
 use Rattle.record.specs.declared.stamp.Precision.TheVariants.{Auto, Minute, Digit}
 use Rattle.record.specs.declared.stamp.Clock.{Clock}
 use Rattle.record.specs.declared.stamp.Time.{Time}
-use Rattle.precision.specs.Precision.{precision_ok, sub_second}
+use Rattle.precision.specs.Precision.{precision_ok}
 use Rattle.precision.proofs.SubSecond.{sub_second_most}
 use Rattle.time_writer.specs.Time.{seconds, unless_minute, time_text, clock_ok, time_ok}
-
-pub length-seconds : (t : Time) → length (seconds t) ≡ length (mark t.include_sep 58) + 2 + length (sub_second t.precision t.clock.nanosecond)
-unfolding seconds
-length-seconds t = simp length-append
-
-pub length-time : (t : Time) → length (time_text t) ≡ 2 + length (mark t.include_sep 58) + 2 + length (unless_minute t.precision (seconds t))
-unfolding time_text
-length-time t = simp length-append
-
-pub shows : (r : List ℕ) {p q : Precision} → p ≡ q → unless_minute p r ≡ unless_minute q r
-shows r e = ap (λ (x : Precision). unless_minute x r) e
 
 pub record ClockIn (c : Clock) : Type 0 where
   pub hour : c.hour ≤ 23
@@ -55,13 +41,11 @@ unless_minute_most Auto r = omega arith
 unless_minute_most Minute r = omega arith
 unless_minute_most (Digit d) r = omega arith
 
-pub time_most : (t : Time) → time_ok t ≡ true → length (time_text t) ≤ 18
-time_most t e =
-    omega (
-      arith,
-      length-time t,
-      mark_most t.include_sep 58,
-      unless_minute_most t.precision (seconds t),
-      length-seconds t,
-      sub_second_most t.precision t.clock.nanosecond (time_in t e).1,
-    )
+seconds_most : (t : Time) → length (seconds t) ≤ 13
+unfolding seconds
+seconds_most t = simp length-append (omega (arith, mark_most t.include_sep 58, sub_second_most t.precision t.clock.nanosecond))
+
+pub time_most : (t : Time) → length (time_text t) ≤ 18
+unfolding time_text
+time_most t =
+    simp length-append (omega (arith, mark_most t.include_sep 58, unless_minute_most t.precision (seconds t), seconds_most t))

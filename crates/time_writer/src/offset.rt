@@ -1,80 +1,69 @@
 // Offsets from UTC: `Z`, or a sign and a time; nothing under Never.
-ghost use Rattle.std.specs.Prelude.{true, ◌≡◌};
-ghost use Rattle.text.specs.Put.{Room, Put, Count};
+ghost use Rattle.std.specs.Prelude.{◌≡◌};
+ghost use Rattle.text.specs.Put.{Count};
+ghost use Rattle.text.specs.Out.{Fits, Puts};
 ghost use Rattle.text.specs.Answer.{length_of, Wrote};
-ghost use Rattle.time_writer.specs.Time.{time_ok};
 ghost use Rattle.time_writer.specs.Offset.{sign_byte, signed_text, utc_text, offset_text, utc_ok, offset_ok, offset_judged};
 
 use record::{DisplayOffset, Offset, Sign, SignedTime, UtcOffset};
-use text::{LengthAnswer, WriteAnswer};
+use text::Refusal;
+use text::out::Out;
 
 fn sign_byte(s: Sign) -> u8
     ensures { result ≡ sign_byte s }
 {
     match s {
         Sign::Negative => b'-',
-        Sign::Zero => b'+',
-        Sign::Positive => b'+',
+        Sign::Zero | Sign::Positive => b'+',
     }
 }
 
-fn put_signed(buf: &mut [u8], at: usize, s: SignedTime) -> usize
-    requires room { Room buf.old at (signed_text s) }
-    requires time_value { time_ok s.time ≡ true }
-    ensures { Put buf.old at (signed_text s) buf.new result }
+#[tactic(auto, using(text::proofs::OutLaws::stepwise), unfolding(crate::specs::Offset::signed_text))]
+fn put_signed(out: &mut Out<'_>, s: SignedTime)
+    requires { Fits out.old (signed_text s) }
+    ensures { Puts out.old (signed_text s) out.new }
 {
-    let sign = s.sign;
-    let time = s.time;
-    let b = sign_byte(sign);
-    let m = text::put::put_byte(buf, at, b);
-    super::time::put_time(buf, m, time)
+    out.byte(sign_byte(s.sign));
+    super::time::put_time(out, s.time);
 }
 
-fn put_utc(buf: &mut [u8], at: usize, u: UtcOffset) -> usize
-    requires room { Room buf.old at (utc_text u) }
-    requires u_value { utc_ok u ≡ true }
-    ensures { Put buf.old at (utc_text u) buf.new result }
+fn put_utc(out: &mut Out<'_>, u: UtcOffset)
+    requires { Fits out.old (utc_text u) }
+    ensures { Puts out.old (utc_text u) out.new }
 {
     match u {
-        UtcOffset::Z => text::put::put_byte(buf, at, b'Z'),
-        UtcOffset::Offset(s) => put_signed(buf, at, s),
+        UtcOffset::Z => out.byte(b'Z'),
+        UtcOffset::Offset(s) => put_signed(out, s),
     }
 }
 
-pub fn put_offset(buf: &mut [u8], at: usize, o: Offset) -> usize
-    requires room { Room buf.old at (offset_text o) }
-    requires o_value { offset_ok o ≡ true }
-    ensures { Put buf.old at (offset_text o) buf.new result }
+#[tactic(auto, unfolding(crate::specs::Offset::offset_text))]
+pub fn put_offset(out: &mut Out<'_>, o: Offset)
+    requires { Fits out.old (offset_text o) }
+    ensures { Puts out.old (offset_text o) out.new }
 {
-    let show = o.show;
-    let u = o.offset;
-    match show {
-        DisplayOffset::Auto => put_utc(buf, at, u),
-        DisplayOffset::Never => at,
+    match o.show {
+        DisplayOffset::Auto => put_utc(out, o.offset),
+        DisplayOffset::Never => {}
     }
 }
 
+#[tactic(auto, unfolding(crate::specs::Offset::signed_text))]
 fn utc_bytes(u: UtcOffset) -> usize
-    requires { utc_ok u ≡ true }
     ensures { Count (utc_text u) 19 result }
 {
     match u {
         UtcOffset::Z => 1,
-        UtcOffset::Offset(s) => {
-            let time = s.time;
-            1 + super::time::time_bytes(time)
-        }
+        UtcOffset::Offset(s) => 1 + super::time::time_bytes(s.time),
     }
 }
 
+#[tactic(auto, unfolding(crate::specs::Offset::offset_text))]
 pub fn offset_bytes(o: Offset) -> usize
-    requires { offset_ok o ≡ true }
     ensures { Count (offset_text o) 19 result }
 {
-    let show = o.show;
-    let u = o.offset;
-    match show {
-        DisplayOffset::Auto => utc_bytes(u),
+    match o.show {
+        DisplayOffset::Auto => utc_bytes(o.offset),
         DisplayOffset::Never => 0,
     }
 }
@@ -84,39 +73,35 @@ fn utc_ok(u: UtcOffset) -> bool
 {
     match u {
         UtcOffset::Z => true,
-        UtcOffset::Offset(s) => {
-            let time = s.time;
-            super::time::time_ok(time)
-        }
+        UtcOffset::Offset(s) => super::time::time_ok(s.time),
     }
 }
 
+#[tactic(auto, unfolding(crate::specs::Offset::offset_ok))]
 pub fn offset_ok(o: Offset) -> bool
     ensures { result ≡ offset_ok o }
 {
-    let u = o.offset;
-    utc_ok(u)
+    utc_ok(o.offset)
 }
 
 // The exact length of an offset's text; 2 for a field out of its range, shown or hidden.
-pub fn offset_length(o: Offset) -> LengthAnswer
+#[tactic(auto, unfolding(crate::specs::Offset::offset_judged))]
+pub fn offset_length(o: Offset) -> Result<usize, Refusal>
     ensures { result ≡ length_of (offset_judged o) }
 {
     if offset_ok(o) {
-        return LengthAnswer::Length(offset_bytes(o));
+        Ok(offset_bytes(o))
+    } else {
+        Err(Refusal::BadField)
     }
-    LengthAnswer::Refused(text::refusal::BAD_FIELD)
 }
 
 // Writes an offset's text to the front of a buffer; refusals 2, then 1.
-pub fn write_offset(buf: &mut [u8], o: Offset) -> WriteAnswer
+#[tactic(auto, using(text::proofs::OutLaws::at_front), unfolding(crate::specs::Offset::offset_judged))]
+pub fn write_offset(buf: &mut [u8], o: Offset) -> Result<usize, Refusal>
     ensures { Wrote (offset_judged o) buf.old buf.new result }
 {
-    match text::fit(offset_length(o), buf.len()) {
-        WriteAnswer::Refused(k) => WriteAnswer::Refused(k),
-        WriteAnswer::Written(n) => {
-            put_offset(buf, 0, o);
-            WriteAnswer::Written(n)
-        }
-    }
+    let n = text::fit(offset_length(o), buf.len())?;
+    put_offset(&mut Out { buf, at: 0 }, o);
+    Ok(n)
 }

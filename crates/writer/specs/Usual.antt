@@ -1,9 +1,8 @@
 -- Stamps as most are: a date of a four-digit year and a time to the second or finer with its separators, in UTC or with nothing said of that, and no
 -- names. What the quick writer keeps of such a stamp, and that it is the stamp's own text. Assumes nothing: these are definitions.
-use Rattle.std.specs.Prelude.{Bool, true, false, cond, ◌≡◌, List, [], ◌∷◌, ◌++◌, ℕ}
+use Rattle.std.specs.Prelude.{Bool, true, false, cond, ◌≡◌, List, [], ◌∷◌, ◌++◌, ℕ, Option, Some, None, Ok}
 use Rattle.text.specs.Digits.{decimal}
 use Rattle.text.specs.Put.{mark}
-use Rattle.text.specs.Answer.{good}
 use Rattle.record.specs.declared.stamp.Precision.{Precision}
 use Rattle.record.specs.declared.stamp.Precision.TheVariants.{Auto, Minute, Digit}
 use Rattle.record.specs.declared.stamp.Clock.{Clock}
@@ -11,23 +10,20 @@ use Rattle.record.specs.declared.stamp.Date.{Date}
 use Rattle.record.specs.declared.stamp.Time.{Time}
 use Rattle.record.specs.declared.stamp.UtcOffset.{UtcOffset}
 use Rattle.record.specs.declared.stamp.UtcOffset.TheVariants as utc
-use Rattle.record.specs.declared.stamp.OffsetPart.{OffsetPart}
-use Rattle.record.specs.declared.stamp.OffsetPart.TheVariants as offset
+use Rattle.record.specs.declared.stamp.Offset.{Offset}
 use Rattle.record.specs.declared.stamp.Stamp.{Stamp}
 use Rattle.date_writer.specs.Date.{year_text, date_text, date_ok}
 use Rattle.time_writer.specs.Time.{time_text, time_ok}
-use Rattle.writer.specs.declared.usual.Usual.{Usual}
-use Rattle.writer.specs.declared.usual.Usual.TheVariants as usual
 use Rattle.writer.specs.Stamp.{shows, stamp_judged}
 
--- whether `Z` is shown: 0 no offset, 1 a shown `Z`, 2 any other offset
-abbrev pub zulu_in : UtcOffset → ℕ
-zulu_in utc.Z = 1
-zulu_in (utc.Offset s) = 2
+-- whether `Z` is shown; None for an offset that is hidden or not `Z`
+abbrev pub zulu_in : UtcOffset → Option Bool
+zulu_in utc.Z = Some true
+zulu_in (utc.Offset s) = None
 
-abbrev pub zulu_of : OffsetPart → ℕ
-zulu_of offset.Absent = 0
-zulu_of (offset.Is o) = cond (shows o.show) (zulu_in o.offset) 2
+abbrev pub zulu_of : Option Offset → Option Bool
+zulu_of None = Some false
+zulu_of (Some o) = cond (shows o.show) (zulu_in o.offset) None
 
 abbrev pub shows_seconds : Precision → Bool
 shows_seconds Auto = true
@@ -50,10 +46,5 @@ pub record UsualParts (y : ℕ) (d : Date) (t : Time) : Type 0 where
   pub seconds : shows_seconds t.precision ≡ true
 
 -- what is kept of a stamp is its text, whatever text is lent beside it
-pub record IsUsual (s : Stamp) (y : ℕ) (d : Date) (t : Time) (zulu : Bool) : Type 0 where
-  pub parts : UsualParts y d t
-  pub judged : (lent : List ℕ) → stamp_judged lent s ≡ good (usual_text d t zulu)
-
-abbrev pub Kept : Stamp → Usual → Type 0
-Kept s (usual.Is y d t zulu) = IsUsual s y d t zulu
-Kept s usual.Other = Unit {0}
+abbrev pub Kept : Stamp → Date → Time → Bool → Type 0
+Kept s d t zulu = (lent : List ℕ) → stamp_judged lent s ≡ Ok (usual_text d t zulu)

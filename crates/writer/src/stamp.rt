@@ -1,311 +1,155 @@
 // Whole stamps: date, `T` if both, time, offset, zone, calendar.
-ghost use Rattle.std.specs.Prelude.{true, ◌≡◌};
-ghost use Rattle.text.specs.Put.{Room, Put, Count, mark};
+ghost use Rattle.std.specs.Prelude.{true, ◌≡◌, ◌++◌, is_some};
+ghost use Rattle.text.specs.Put.{Count};
+ghost use Rattle.text.specs.Out.{Fits, Puts};
 ghost use Rattle.text.specs.Answer.{length_of, Wrote};
-ghost use Rattle.writer.specs.Stamp.{date_part_text, time_part_text, offset_part_text, zone_part_text, calendar_part_text, stamp_text, date_part_ok, time_part_ok, offset_part_ok, fields_ok, zone_part_ok, calendar_part_ok, names_ok, has_date, has_time, shows, shows_offset, parts_ok, stamp_judged};
+ghost use Rattle.writer.specs.Stamp.{part_text, part_ok, timed_text, stamp_text, fields_ok, names_ok, shows, shows_offset, parts_ok, stamp_judged};
+ghost use Rattle.date_writer.specs.Date.{date_text, date_ok};
+ghost use Rattle.time_writer.specs.Time.{time_text, time_ok};
+ghost use Rattle.time_writer.specs.Offset.{offset_text, offset_ok};
+ghost use Rattle.tail_writer.specs.Zone.{zone_text, zone_ok};
+ghost use Rattle.tail_writer.specs.Calendar.{calendar_text, calendar_ok};
 
-use record::{CalendarPart, DatePart, DisplayOffset, OffsetPart, Stamp, TimePart, ZonePart};
-use text::{LengthAnswer, WriteAnswer};
+use record::{Date, DisplayOffset, Offset, Stamp, Time};
+use text::Refusal;
+use text::out::Out;
 
-fn has_date(p: DatePart) -> bool
-    ensures { result ≡ has_date p }
+// A time, `T` before it if it follows a date.
+#[tactic(auto, using(text::proofs::OutLaws::stepwise))]
+fn put_timed(out: &mut Out<'_>, dated: bool, t: Time)
+    requires { Fits out.old (timed_text dated t) }
+    ensures { Puts out.old (timed_text dated t) out.new }
 {
-    match p {
-        DatePart::Absent => false,
-        DatePart::Is(_) => true,
+    out.mark(dated, b'T');
+    time_writer::time::put_time(out, t);
+}
+
+// The date and the time.
+#[tactic(auto, using(text::proofs::OutLaws::stepwise))]
+fn put_date_time(out: &mut Out<'_>, date: Option<Date>, time: Option<Time>)
+    requires { Fits out.old (part_text date_text date ++ part_text (timed_text (is_some date)) time) }
+    ensures { Puts out.old (part_text date_text date ++ part_text (timed_text (is_some date)) time) out.new }
+{
+    if let Some(d) = date {
+        date_writer::date::put_date(out, d);
+    }
+    if let Some(t) = time {
+        put_timed(out, date.is_some(), t);
     }
 }
 
-fn has_time(p: TimePart) -> bool
-    ensures { result ≡ has_time p }
+#[tactic(auto, using(text::proofs::OutLaws::stepwise), unfolding(crate::specs::Stamp::stamp_text))]
+fn put_stamp(out: &mut Out<'_>, lent: &[u8], s: Stamp)
+    requires { Fits out.old (stamp_text lent.now s) }
+    ensures { Puts out.old (stamp_text lent.now s) out.new }
 {
-    match p {
-        TimePart::Absent => false,
-        TimePart::Is(_) => true,
+    put_date_time(out, s.date, s.time);
+    if let Some(o) = s.offset {
+        time_writer::offset::put_offset(out, o);
+    }
+    if let Some(z) = s.zone {
+        tail_writer::zone::put_zone(out, lent, z);
+    }
+    if let Some(c) = s.calendar {
+        tail_writer::calendar::put_calendar(out, lent, c);
     }
 }
 
-fn put_date_part(buf: &mut [u8], at: usize, p: DatePart) -> usize
-    requires room { Room buf.old at (date_part_text p) }
-    requires p_value { date_part_ok p ≡ true }
-    ensures { Put buf.old at (date_part_text p) buf.new result }
-{
-    match p {
-        DatePart::Absent => at,
-        DatePart::Is(d) => date_writer::date::put_date(buf, at, d),
-    }
-}
-
-fn put_time_part(buf: &mut [u8], at: usize, dated: bool, p: TimePart) -> usize
-    requires room { Room buf.old at (time_part_text dated p) }
-    requires p_value { time_part_ok p ≡ true }
-    ensures { Put buf.old at (time_part_text dated p) buf.new result }
-{
-    match p {
-        TimePart::Absent => at,
-        TimePart::Is(t) => {
-            let m = text::put::put_mark(buf, at, dated, b'T');
-            time_writer::time::put_time(buf, m, t)
-        }
-    }
-}
-
-fn put_offset_part(buf: &mut [u8], at: usize, p: OffsetPart) -> usize
-    requires room { Room buf.old at (offset_part_text p) }
-    requires p_value { offset_part_ok p ≡ true }
-    ensures { Put buf.old at (offset_part_text p) buf.new result }
-{
-    match p {
-        OffsetPart::Absent => at,
-        OffsetPart::Is(o) => time_writer::offset::put_offset(buf, at, o),
-    }
-}
-
-fn put_zone_part(buf: &mut [u8], at: usize, lent: &[u8], p: ZonePart) -> usize
-    requires { Room buf.old at (zone_part_text lent.now p) }
-    ensures { Put buf.old at (zone_part_text lent.now p) buf.new result }
-{
-    match p {
-        ZonePart::Absent => at,
-        ZonePart::Is(z) => tail_writer::zone::put_zone(buf, at, lent, z),
-    }
-}
-
-fn put_calendar_part(buf: &mut [u8], at: usize, lent: &[u8], p: CalendarPart) -> usize
-    requires { Room buf.old at (calendar_part_text lent.now p) }
-    ensures { Put buf.old at (calendar_part_text lent.now p) buf.new result }
-{
-    match p {
-        CalendarPart::Absent => at,
-        CalendarPart::Is(c) => tail_writer::calendar::put_calendar(buf, at, lent, c),
-    }
-}
-
-pub fn put_stamp(buf: &mut [u8], at: usize, lent: &[u8], s: Stamp) -> usize
-    requires room { Room buf.old at (stamp_text lent.now s) }
-    requires s_value { fields_ok s ≡ true }
-    ensures { Put buf.old at (stamp_text lent.now s) buf.new result }
-{
-    let date = s.date;
-    let time = s.time;
-    let offset = s.offset;
-    let zone = s.zone;
-    let calendar = s.calendar;
-    let dated = has_date(date);
-    let a = put_date_part(buf, at, date);
-    let b = put_time_part(buf, a, dated, time);
-    let c = put_offset_part(buf, b, offset);
-    let d = put_zone_part(buf, c, lent, zone);
-    put_calendar_part(buf, d, lent, calendar)
-}
-
-fn date_part_bytes(p: DatePart) -> usize
-    ensures { Count (date_part_text p) 13 result }
-{
-    match p {
-        DatePart::Absent => 0,
-        DatePart::Is(d) => date_writer::date::date_bytes(d),
-    }
-}
-
-fn time_part_bytes(dated: bool, p: TimePart) -> usize
-    requires { time_part_ok p ≡ true }
-    ensures { Count (time_part_text dated p) 19 result }
-{
-    match p {
-        TimePart::Absent => 0,
-        TimePart::Is(t) => text::put::mark_bytes(dated, b'T') + time_writer::time::time_bytes(t),
-    }
-}
-
-fn offset_part_bytes(p: OffsetPart) -> usize
-    requires { offset_part_ok p ≡ true }
-    ensures { Count (offset_part_text p) 19 result }
-{
-    match p {
-        OffsetPart::Absent => 0,
-        OffsetPart::Is(o) => time_writer::offset::offset_bytes(o),
-    }
-}
-
-fn zone_part_bytes(lent: &[u8], p: ZonePart) -> usize
-    requires { zone_part_ok lent.now p ≡ true }
-    ensures { Count (zone_part_text lent.now p) 67 result }
-{
-    match p {
-        ZonePart::Absent => 0,
-        ZonePart::Is(z) => tail_writer::zone::zone_bytes(lent, z),
-    }
-}
-
-fn calendar_part_bytes(lent: &[u8], p: CalendarPart) -> usize
-    requires { calendar_part_ok lent.now p ≡ true }
-    ensures { Count (calendar_part_text lent.now p) 72 result }
-{
-    match p {
-        CalendarPart::Absent => 0,
-        CalendarPart::Is(c) => tail_writer::calendar::calendar_bytes(lent, c),
-    }
-}
-
+#[tactic(auto, using(text::proofs::OutLaws::stepwise), unfolding(crate::specs::Stamp::stamp_text, crate::specs::Stamp::names_ok))]
 pub fn stamp_bytes(lent: &[u8], s: Stamp) -> usize
-    requires s_value { fields_ok s ≡ true }
-    requires s_value_2 { names_ok lent.now s ≡ true }
+    requires { names_ok lent.now s ≡ true }
     ensures { Count (stamp_text lent.now s) 190 result }
 {
-    let date = s.date;
-    let time = s.time;
-    let offset = s.offset;
-    let zone = s.zone;
-    let calendar = s.calendar;
-    let dated = has_date(date);
-    let a = date_part_bytes(date);
-    let b = time_part_bytes(dated, time);
-    let c = offset_part_bytes(offset);
-    let d = zone_part_bytes(lent, zone);
-    let e = calendar_part_bytes(lent, calendar);
-    a + b + c + d + e
+    let dated = s.date.is_some();
+    let date = s.date.map_or(0, date_writer::date::date_bytes);
+    let time = s.time.map_or(0, |t| {
+        text::put::mark_bytes(dated, b'T') + time_writer::time::time_bytes(t)
+    });
+    let offset = s.offset.map_or(0, time_writer::offset::offset_bytes);
+    let zone = s.zone.map_or(0, |z| tail_writer::zone::zone_bytes(lent, z));
+    let calendar = s
+        .calendar
+        .map_or(0, |c| tail_writer::calendar::calendar_bytes(lent, c));
+    date + time + offset + zone + calendar
 }
 
-fn date_part_ok(p: DatePart) -> bool
-    ensures { result ≡ date_part_ok p }
-{
-    match p {
-        DatePart::Absent => true,
-        DatePart::Is(d) => date_writer::date::date_ok(d),
-    }
-}
-
-fn time_part_ok(p: TimePart) -> bool
-    ensures { result ≡ time_part_ok p }
-{
-    match p {
-        TimePart::Absent => true,
-        TimePart::Is(t) => time_writer::time::time_ok(t),
-    }
-}
-
-fn offset_part_ok(p: OffsetPart) -> bool
-    ensures { result ≡ offset_part_ok p }
-{
-    match p {
-        OffsetPart::Absent => true,
-        OffsetPart::Is(o) => time_writer::offset::offset_ok(o),
-    }
-}
-
+#[tactic(auto, unfolding(crate::specs::Stamp::fields_ok))]
 fn fields_ok(s: Stamp) -> bool
     ensures { result ≡ fields_ok s }
 {
-    let date = s.date;
-    let time = s.time;
-    let offset = s.offset;
-    date_part_ok(date) & time_part_ok(time) & offset_part_ok(offset)
+    s.date.is_none_or(date_writer::date::date_ok)
+        & s.time.is_none_or(time_writer::time::time_ok)
+        & s.offset.is_none_or(time_writer::offset::offset_ok)
 }
 
-fn zone_part_ok(lent: &[u8], p: ZonePart) -> bool
-    ensures { result ≡ zone_part_ok lent.now p }
-{
-    match p {
-        ZonePart::Absent => true,
-        ZonePart::Is(z) => tail_writer::zone::zone_ok(lent, z),
-    }
-}
-
-fn calendar_part_ok(lent: &[u8], p: CalendarPart) -> bool
-    ensures { result ≡ calendar_part_ok lent.now p }
-{
-    match p {
-        CalendarPart::Absent => true,
-        CalendarPart::Is(c) => tail_writer::calendar::calendar_ok(lent, c),
-    }
-}
-
+#[tactic(auto, unfolding(crate::specs::Stamp::names_ok))]
 fn names_ok(lent: &[u8], s: Stamp) -> bool
     ensures { result ≡ names_ok lent.now s }
 {
-    let zone = s.zone;
-    let calendar = s.calendar;
-    zone_part_ok(lent, zone) & calendar_part_ok(lent, calendar)
+    s.zone.is_none_or(|z| tail_writer::zone::zone_ok(lent, z))
+        & s.calendar
+            .is_none_or(|c| tail_writer::calendar::calendar_ok(lent, c))
 }
 
 pub fn is_shown(show: DisplayOffset) -> bool
     ensures { result ≡ shows show }
 {
-    match show {
-        DisplayOffset::Auto => true,
-        DisplayOffset::Never => false,
-    }
+    show == DisplayOffset::Auto
 }
 
-fn shows_offset(p: OffsetPart) -> bool
+fn shows_offset(p: Option<Offset>) -> bool
     ensures { result ≡ shows_offset p }
 {
-    match p {
-        OffsetPart::Absent => false,
-        OffsetPart::Is(o) => {
-            let show = o.show;
-            is_shown(show)
-        }
-    }
+    p.is_some_and(|o| is_shown(o.show))
 }
 
+#[tactic(auto, unfolding(crate::specs::Stamp::parts_ok))]
 fn parts_ok(s: Stamp) -> bool
     ensures { result ≡ parts_ok s }
 {
-    let date = s.date;
-    let time = s.time;
-    let offset = s.offset;
-    let timed = has_time(time);
-    (has_date(date) | timed) & (!shows_offset(offset) | timed)
+    let timed = s.time.is_some();
+    (s.date.is_some() | timed) & (!shows_offset(s.offset) | timed)
 }
 
 // The exact length of a stamp's text; refusals 2, 3, 4.
-pub fn stamp_length(lent: &[u8], s: Stamp) -> LengthAnswer
+#[tactic(auto, unfolding(crate::specs::Stamp::stamp_judged))]
+pub fn stamp_length(lent: &[u8], s: Stamp) -> Result<usize, Refusal>
     ensures { result ≡ length_of (stamp_judged lent.now s) }
 {
-    if fields_ok(s) {
-        if names_ok(lent, s) {
-            if parts_ok(s) {
-                return LengthAnswer::Length(stamp_bytes(lent, s));
-            }
-            return LengthAnswer::Refused(text::refusal::BAD_PARTS);
-        }
-        return LengthAnswer::Refused(text::refusal::BAD_NAME);
+    if !fields_ok(s) {
+        Err(Refusal::BadField)
+    } else if !names_ok(lent, s) {
+        Err(Refusal::BadName)
+    } else if !parts_ok(s) {
+        Err(Refusal::BadParts)
+    } else {
+        Ok(stamp_bytes(lent, s))
     }
-    LengthAnswer::Refused(text::refusal::BAD_FIELD)
 }
 
 // Any stamp, its length first.
-fn write_any(buf: &mut [u8], lent: &[u8], s: Stamp) -> WriteAnswer
+#[tactic(auto, using(text::proofs::OutLaws::at_front), unfolding(crate::specs::Stamp::stamp_judged))]
+fn write_any(buf: &mut [u8], lent: &[u8], s: Stamp) -> Result<usize, Refusal>
     ensures { Wrote (stamp_judged lent.now s) buf.old buf.new result }
 {
-    match text::fit(stamp_length(lent, s), buf.len()) {
-        WriteAnswer::Refused(k) => WriteAnswer::Refused(k),
-        WriteAnswer::Written(n) => {
-            put_stamp(buf, 0, lent, s);
-            WriteAnswer::Written(n)
-        }
-    }
+    let n = text::fit(stamp_length(lent, s), buf.len())?;
+    put_stamp(&mut Out { buf, at: 0 }, lent, s);
+    Ok(n)
 }
 
 // Writes a stamp's text to the front of a buffer; refusals 2, 3, 4, then 1. A stamp as most are, whose text has at most 30 bytes, is written at once.
-pub fn write_stamp(buf: &mut [u8], lent: &[u8], s: Stamp) -> WriteAnswer
+pub fn write_stamp(buf: &mut [u8], lent: &[u8], s: Stamp) -> Result<usize, Refusal>
     ensures { Wrote (stamp_judged lent.now s) buf.old buf.new result }
 {
     if buf.len() < 30 {
         return write_any(buf, lent, s);
     }
     match super::usual::usual_of(s) {
-        super::usual::Usual::Is {
-            year,
-            date,
-            time,
-            zulu,
-        } => {
-            let n = super::usual::put_usual(buf, year, date, time, zulu);
-            WriteAnswer::Written(n)
+        Some(u) => {
+            let mut out = Out { buf, at: 0 };
+            u.put(&mut out);
+            Ok(out.at)
         }
-        super::usual::Usual::Other => write_any(buf, lent, s),
+        None => write_any(buf, lent, s),
     }
 }

@@ -9,9 +9,9 @@ use Rattle.iso.proofs.DateLaws.{in_every_year}
 use Rattle.iso.proofs.is_valid_date.Goals as goal
 
 pub returns-then-in_every_year : goal.returns-then-in_every_year
-returns-then-in_every_year c = in_every_year _ _ _ (sym c.in_every_year.ensures ∙ c.if-in_every_year.true)
+returns-then-in_every_year c = c.if-in_every_year.true ∙ in_every_year _ _ _ (sym c.in_every_year.ensures ∙ c.if-in_every_year.true)
 
-pub returns : goal.returns
+pub returns-else-in_every_year : goal.returns-else-in_every_year
 unfolding valid_date
-returns c = ap (λ (days : ℕ). leb 1 c.args.day && leb c.args.day days)
+returns-else-in_every_year c = ap (λ (days : ℕ). leb 1 c.args.day && leb c.args.day days)
     (rw (to_z-of_z c.ranges.year) at c.iso_days_in_month.ensures)

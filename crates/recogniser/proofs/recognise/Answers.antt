@@ -1,11 +1,10 @@
 -- `recogniser::recognise` meets its contract: its answer is the definition's, and that is what `Recognised` says. Assumes nothing.
-use mathlib.Core.Path.{◌≡◌}
-use mathlib.Core.Bool.{Bool}
-use mathlib.Core.List.{List}
-use Prim.Native.Nat.{ℕ}
+use Rattle.std.proofs.Common.{◌≡◌, Bool, false, List, ℕ, Option, Some, None, MatchOption, sym, ap, ◌∙◌}
 use Rattle.text.proofs.Tests.{tests}
+use Rattle.grammar.specs.declared.StampRead.{StampRead}
+use Rattle.grammar.specs.Read.{stamp}
 use Rattle.meaning.proofs.Years.{stamp_small}
-use Rattle.recogniser.specs.Plain.{recognises}
+use Rattle.recogniser.specs.Plain.{plain, plain_read, recognises}
 use Rattle.recogniser.specs.Recognised.{Recognised}
 use Rattle.recogniser.proofs.Theorem.{recognised}
 use Rattle.recogniser.proofs.recognise.Goals as goal
@@ -13,13 +12,19 @@ use Rattle.recogniser.proofs.recognise.Goals as goal
 answered : (l : List ℕ) {r : Bool} → r ≡ recognises l → Recognised l r
 answered l e = rw e (recognised l)
 
-pub returns-then-t-gt-LONGEST_STAMP : goal.returns-then-t-gt-LONGEST_STAMP
-unfolding recognises
-returns-then-t-gt-LONGEST_STAMP c = answered c.args.t.now (search tests)
+tested : (o : Option StampRead) {r : Bool} → MatchOption o (r ≡ false) (λ w. r ≡ plain w) → r ≡ plain_read o
+tested None e = e
+tested (Some w) e = e
 
-pub plain_stamp-requires : goal.plain_stamp-requires
-plain_stamp-requires c = rw c.read_stamp.ensures (stamp_small _)
+pub is_some_and-requires : goal.is_some_and-requires
+is_some_and-requires c = λ w e. stamp_small c.args.t.now (sym c.read_stamp.ensures ∙ e)
 
-pub returns : goal.returns
+pub returns-then-t-le-LONGEST_STAMP : goal.returns-then-t-le-LONGEST_STAMP
 unfolding recognises
-returns c = answered c.args.t.now (search (tests, c.plain_stamp.ensures, c.read_stamp.ensures))
+returns-then-t-le-LONGEST_STAMP c =
+    let e : c.is_some_and.result ≡ plain_read (stamp c.args.t.now) = tested c.read_stamp.result c.is_some_and.ensures ∙ ap plain_read c.read_stamp.ensures in
+    answered c.args.t.now (search (tests, e))
+
+pub returns-else-t-le-LONGEST_STAMP : goal.returns-else-t-le-LONGEST_STAMP
+unfolding recognises
+returns-else-t-le-LONGEST_STAMP c = answered c.args.t.now (search tests)

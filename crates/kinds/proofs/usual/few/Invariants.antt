@@ -5,7 +5,8 @@ use Rattle.kinds.specs.Usual.{unit}
 use Rattle.kinds.proofs.usual.few.Given as goal
 
 abbrev pub invariant-loop-i : goal.invariant-loop-i
-invariant-loop-i l = (20 ≤ l.i) × (l.i ≤ l.end) × ((l.v + 1) * unit (l.i - 20) ≤ 1000000000) × (fraction_of 46 (drop 20 l.t) ≡ digits_from 46 (drop l.i l.t) (l.i - 20) (unit (l.i - 20) / 10) (l.v * unit (l.i - 20)))
-
-abbrev pub decreases-loop-i : goal.decreases-loop-i
-decreases-loop-i l = l.end - l.i
+invariant-loop-i l =
+    record {
+      small : (l.v + 1) * unit (l.i - 20) ≤ 1000000000;
+      read : fraction_of 46 (drop 20 l.t) ≡ digits_from 46 (drop l.i l.t) (l.i - 20) (unit (l.i - 20) / 10) (l.v * unit (l.i - 20));
+    }

@@ -7,4 +7,4 @@ use Rattle.text.proofs.digits.last_nonzero.Goals as goal
 pub returns : goal.returns
 unfolding last_nonzero
 returns c = let z : c.loop-i.i ≡ 0 = omega arith in
-    sym (rw z at c.loop-i.invariant.2)
+    sym (rw z at c.loop-i.invariant.1)

@@ -1,2 +1,0 @@
--- A lemma on negatives.
-mod Negation

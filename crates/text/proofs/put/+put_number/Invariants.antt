@@ -1,5 +1,0 @@
--- The measure is the number itself: a call is on its tenth part. Assumes nothing.
-use Rattle.text.proofs.put.+put_number.Given as goal
-
-abbrev pub decreases-put_number : goal.decreases-put_number
-decreases-put_number l = l.n
