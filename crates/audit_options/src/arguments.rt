@@ -6,7 +6,7 @@ use std::env::{Env, FillError};
 use std::fmt;
 
 // What is wrong with the arguments.
-#[derive(Clone, Copy)]
+#[derive(Clone, Copy, Debug, PartialEq, Eq)]
 pub enum Fault {
     TooLong,
     NoOption,
@@ -28,20 +28,20 @@ impl fmt::Display for Fault {
 }
 
 // A fault, with the number of its argument.
-#[derive(Clone, Copy)]
+#[derive(Clone, Copy, Debug, PartialEq, Eq)]
 pub struct Complaint {
     pub what: Fault,
     pub at: usize,
 }
 
 // What is to be done. The log is the file that the argument of this number names; without one, standard input.
-#[derive(Clone, Copy)]
+#[derive(Clone, Copy, Debug, PartialEq, Eq)]
 pub enum Task {
     Audit(Option<usize>),
     Help,
 }
 
-#[derive(Clone, Copy)]
+#[derive(Clone, Copy, Debug, PartialEq, Eq)]
 pub struct Options {
     pub task: Task,
     pub asked: Asked,

@@ -8,7 +8,7 @@ use crate::kinds::{Change, Kind};
 use text::Refusal;
 
 // How many lines there are, and the number of the first.
-#[derive(Clone, Copy)]
+#[derive(Clone, Copy, Debug, PartialEq, Eq)]
 pub struct Tally {
     pub count: u64,
     pub first: Option<u64>,
@@ -31,7 +31,7 @@ impl Tally {
 // How many changes of the year's width are kept, each with the number of its line.
 pub const KEPT: usize = 20;
 
-#[derive(Clone, Copy)]
+#[derive(Clone, Copy, Debug, PartialEq, Eq)]
 pub struct Changes {
     pub count: u64,
     pub first: [Option<(u64, Change)>; KEPT],
@@ -49,7 +49,7 @@ impl Changes {
     }
 }
 
-#[derive(Clone, Copy)]
+#[derive(Clone, Copy, Debug, PartialEq, Eq)]
 pub struct Counts {
     pub ours: Tally,
     pub foreign: Tally,

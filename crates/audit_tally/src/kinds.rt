@@ -6,7 +6,7 @@ use record::{Goal, Reading};
 use text::Refusal;
 
 // The three kinds of lines.
-#[derive(Clone, Copy, PartialEq, Eq)]
+#[derive(Clone, Copy, Debug, PartialEq, Eq)]
 pub enum Kind {
     Refused(Refusal),
     // Read, and one of our own texts.
@@ -16,14 +16,14 @@ pub enum Kind {
 }
 
 // How many columns a year takes: four digits, or a sign and six.
-#[derive(Clone, Copy, PartialEq, Eq)]
+#[derive(Clone, Copy, Debug, PartialEq, Eq)]
 pub enum YearWidth {
     Four,
     Seven,
 }
 
 // What the library says of a line.
-#[derive(Clone, Copy, PartialEq, Eq)]
+#[derive(Clone, Copy, Debug, PartialEq, Eq)]
 pub struct Verdict {
     // What it is read as, for the goal.
     pub reading: Reading,
@@ -71,7 +71,7 @@ fn written_width(line: &[u8]) -> Option<YearWidth>
 }
 
 // What a line does to the width of the year before it.
-#[derive(Clone, Copy, PartialEq, Eq)]
+#[derive(Clone, Copy, Debug, PartialEq, Eq)]
 pub enum Change {
     Wider,
     Narrower,
@@ -90,7 +90,7 @@ pub fn change_of(before: Option<YearWidth>, width: Option<YearWidth>) -> Option<
 }
 
 // Which lines are printed.
-#[derive(Clone, Copy, PartialEq, Eq)]
+#[derive(Clone, Copy, Debug, PartialEq, Eq)]
 pub enum Rows {
     All,
     NotOurs,
@@ -115,7 +115,7 @@ impl Rows {
 }
 
 // What is asked of a log: the goal that its lines are read for, and which of them are printed.
-#[derive(Clone, Copy, PartialEq, Eq)]
+#[derive(Clone, Copy, Debug, PartialEq, Eq)]
 pub struct Asked {
     pub goal: Goal,
     pub rows: Rows,

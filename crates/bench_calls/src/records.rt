@@ -8,7 +8,7 @@ use stamp::{
 pub const WORDS: usize = 24;
 
 // The words in the order of bench/fields.h. A name's word is a place, and then a length.
-#[derive(Clone, Copy)]
+#[derive(Clone, Copy, Debug, PartialEq, Eq)]
 enum Field {
     Dated,
     Month,
@@ -63,7 +63,7 @@ pub fn moment_of(date: Date, clock: Clock, precision: Precision) -> Stamp {
     }
 }
 
-#[derive(Clone, Copy)]
+#[derive(Clone, Copy, Debug, PartialEq, Eq)]
 pub struct Words<'a>(pub &'a [u32]);
 
 impl Words<'_> {
@@ -92,30 +92,41 @@ impl Words<'_> {
         }
     }
 
-    pub fn time(self) -> Time {
+    // A time by its fields: hour, minute, second, nanosecond, precision, and whether it is compact.
+    fn time_of(self, fields: [Field; 6]) -> Time {
+        let [hour, minute, second, nanosecond, precision, compact] = fields;
         Time {
             clock: Clock {
-                hour: self.byte(Field::Hour),
-                minute: self.byte(Field::Minute),
-                second: self.byte(Field::Second),
-                nanosecond: self.word(Field::Nanosecond),
+                hour: self.byte(hour),
+                minute: self.byte(minute),
+                second: self.byte(second),
+                nanosecond: self.word(nanosecond),
             },
-            precision: precision_of(self.byte(Field::Precision)),
-            include_sep: !self.has(Field::Compact),
+            precision: precision_of(self.byte(precision)),
+            include_sep: !self.has(compact),
         }
     }
 
+    pub fn time(self) -> Time {
+        self.time_of([
+            Field::Hour,
+            Field::Minute,
+            Field::Second,
+            Field::Nanosecond,
+            Field::Precision,
+            Field::Compact,
+        ])
+    }
+
     fn signed_time(self, sign: Sign) -> UtcOffset {
-        let time = Time {
-            clock: Clock {
-                hour: self.byte(Field::OffsetHour),
-                minute: self.byte(Field::OffsetMinute),
-                second: self.byte(Field::OffsetSecond),
-                nanosecond: self.word(Field::OffsetNanosecond),
-            },
-            precision: precision_of(self.byte(Field::OffsetPrecision)),
-            include_sep: !self.has(Field::OffsetCompact),
-        };
+        let time = self.time_of([
+            Field::OffsetHour,
+            Field::OffsetMinute,
+            Field::OffsetSecond,
+            Field::OffsetNanosecond,
+            Field::OffsetPrecision,
+            Field::OffsetCompact,
+        ]);
         UtcOffset::Offset(SignedTime { sign, time })
     }
 

@@ -15,9 +15,9 @@ fn put_six(out: &mut Out<'_>, sign: u8, n: u32)
     requires { Fits out.old (sign ∷ decimal 6 n) }
     ensures { Puts out.old (sign ∷ decimal 6 n) out.new }
 {
-    let s = text::digits::u32_to_digits(n);
     out.byte(sign);
-    out.digits(s.digits, 3, 9);
+    out.pair(n / 10_000);
+    out.four(n);
 }
 
 #[tactic(auto, using(crate::proofs::DateLaws::years))]
@@ -28,7 +28,7 @@ pub fn put_year(out: &mut Out<'_>, year: i32)
     let n = iso::magnitude(year);
     if year < 0 {
         put_six(out, b'-', n);
-    } else if n < 10000 {
+    } else if n < 10_000 {
         out.four(n);
     } else {
         put_six(out, b'+', n);
@@ -61,7 +61,7 @@ pub fn year_bytes(year: i32) -> usize
     let n = iso::magnitude(year);
     if year < 0 {
         7
-    } else if n < 10000 {
+    } else if n < 10_000 {
         4
     } else {
         7
@@ -87,11 +87,8 @@ pub fn date_ok(d: Date) -> bool
 pub fn date_length(d: Date) -> Result<usize, Refusal>
     ensures { result ≡ length_of (date_judged d) }
 {
-    if date_ok(d) {
-        Ok(date_bytes(d))
-    } else {
-        Err(Refusal::BadField)
-    }
+    text::check(date_ok(d), Refusal::BadField)?;
+    Ok(date_bytes(d))
 }
 
 // Writes a date's text to the front of a buffer; refusals 2, then 1.
@@ -99,7 +96,5 @@ pub fn date_length(d: Date) -> Result<usize, Refusal>
 pub fn write_date(buf: &mut [u8], d: Date) -> Result<usize, Refusal>
     ensures { Wrote (date_judged d) buf.old buf.new result }
 {
-    let n = text::fit(date_length(d), buf.len())?;
-    put_date(&mut Out { buf, at: 0 }, d);
-    Ok(n)
+    text::write_with(buf, date_length(d), |out| put_date(out, d))
 }

@@ -5,25 +5,22 @@
 --     some_units, some_parts    there is something to write exactly if a number that is written is not 0
 --     time_as                   the time by its pieces: `T` where one of them is written
 use mathlib.Core.Path.{◌≡◌, refl, sym, ap, ◌∙◌}
-use mathlib.Core.Bool.{Bool, true, false, cond, not, ◌&&◌, ◌||◌, false≢true}
-use mathlib.Core.List.{List, [], ◌∷◌, ◌++◌, append_assoc}
-use Prim.Native.Nat.{ℕ, zero, suc, ◌+◌, ◌^◌, ◌<◌, ◌≤◌}
+use mathlib.Core.Bool.{Bool, true, false, cond, not, ◌||◌, false≢true}
+use mathlib.Core.List.{List, [], ◌∷◌, ◌++◌}
+use Prim.Native.Nat.{ℕ, zero, suc, ◌^◌, ◌<◌, ◌≤◌}
 use native.Mathlib.Omega.{arith}
 use borrow.Author.Tests.{ne_eqb}
-use lib.Dec.{leb}
 use lib.ListN.{length, length-append}
-use Rattle.std.specs.Prelude.{Option, Some, None, is_some, is_none, Ok}
+use Rattle.std.specs.Prelude.{Option, Some, None, is_some, is_none}
 use Rattle.text.specs.Digits.{number}
 use Rattle.text.specs.Put.{mark}
-use Rattle.text.specs.Answer.{answer_of}
-use Rattle.text.proofs.Answers.{both, Accepted, accepted}
-use Rattle.text.proofs.NumberLaws.{length_number, width_le}
+use Rattle.text.proofs.NumberLaws.{length-number, width_le}
 use Rattle.record.specs.declared.stamp.Precision.{Precision}
 use Rattle.record.specs.declared.duration.DateDuration.{DateDuration}
 use Rattle.record.specs.declared.duration.Duration.{Duration}
-use Rattle.precision.specs.Precision.{precision_ok, sub_second}
+use Rattle.precision.specs.Precision.{sub_second}
 use Rattle.duration.specs.declared.held.TimeNumbers.{TimeNumbers}
-use Rattle.duration.specs.Duration.{date_numbers, time_numbers, in_seconds, negative, minute, nonzero, unit, date_units, seconds_shown, seconds_text, time_units, time_shown, designated, parts_text, duration_text, duration_ok, some, any_date, duration_parts_ok, duration_judged}
+use Rattle.duration.specs.Duration.{date_numbers, time_numbers, nonzero, unit, date_units, seconds_shown, seconds_text, time_units, time_shown, designated, parts_text, some, any_date}
 
 pub unit_none : (n letter : ℕ) → n ≡ 0 → unit n letter ≡ []
 unfolding unit
@@ -43,7 +40,7 @@ absent (Some x) = refl
 pub unit_most : (k n letter : ℕ) → n < 10 ^ suc k → length (unit n letter) ≤ suc (suc k)
 unfolding unit
 unit_most k zero letter h = omega arith
-unit_most k (suc n) letter h = simp length-append (omega (arith, length_number (suc n), width_le k (suc n) h))
+unit_most k (suc n) letter h = simp length-append (omega (arith, length-number (suc n), width_le k (suc n) h))
 
 -- ---- something to write
 or-true : (a : Bool) → (a || true) ≡ true

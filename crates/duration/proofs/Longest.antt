@@ -8,7 +8,7 @@ use lib.ListN.{length, length-append}
 use Rattle.std.specs.Prelude.{Some, Ok}
 use Rattle.text.specs.Digits.{last_nonzero, fraction, width_by, width, number}
 use Rattle.text.specs.Answer.{length_of}
-use Rattle.text.proofs.NumberLaws.{length_number, width_le}
+use Rattle.text.proofs.NumberLaws.{length-number, width_le}
 use Rattle.text.proofs.OutLaws.{mark_most}
 use Rattle.record.specs.declared.stamp.Precision.{Precision}
 use Rattle.record.specs.declared.stamp.Precision.TheVariants.{Auto}
@@ -49,7 +49,7 @@ module _ (p : Precision) (n : TimeNumbers) (f : TimeFits n) where
   seconds_most : (shown : Bool) → length (cond shown (seconds_text p n) []) ≤ 31
   unfolding seconds_text
   seconds_most true =
-      simp length-append (omega (arith, length_number n.seconds, width_le 19 n.seconds (omega arith), sub_second_most p n.fraction))
+      simp length-append (omega (arith, length-number n.seconds, width_le 19 n.seconds (omega arith), sub_second_most p n.fraction))
   seconds_most false = omega arith
 
   time_most : (shown : Bool) → length (designated (time_units p shown n)) ≤ 74

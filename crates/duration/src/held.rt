@@ -5,7 +5,7 @@ ghost use Rattle.duration.specs.Duration.{date_numbers, time_numbers, in_seconds
 use record::{DateDuration, Duration, Precision, Sign, TimeDuration};
 
 // The numbers of a time, whatever its largest unit; the fraction is in nanoseconds.
-#[derive(Clone, Copy)]
+#[derive(Clone, Copy, Debug, PartialEq, Eq)]
 pub struct TimeNumbers {
     pub hours: u64,
     pub minutes: u64,
@@ -98,13 +98,13 @@ fn digit(p: Precision) -> bool
 fn any_date(n: DateDuration) -> bool
     ensures { result ≡ any_date n }
 {
-    (n.years != 0) | (n.months != 0) | (n.weeks != 0) | (n.days != 0)
+    n != NO_DATE
 }
 
 fn any_time(n: TimeNumbers) -> bool
     ensures { result ≡ any_time n }
 {
-    (n.hours != 0) | (n.minutes != 0) | (n.seconds != 0) | (n.fraction != 0)
+    n != NO_TIME
 }
 
 // The seconds are written.
@@ -125,7 +125,7 @@ pub fn time_shown(shown: bool, n: TimeNumbers) -> bool
 }
 
 // The time of a duration as its text shows it: its numbers, whether the seconds are written, and their precision.
-#[derive(Clone, Copy)]
+#[derive(Clone, Copy, Debug, PartialEq, Eq)]
 pub struct ShownTime {
     pub numbers: TimeNumbers,
     pub seconds: bool,

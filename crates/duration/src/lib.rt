@@ -18,13 +18,9 @@ mod put;
 pub fn duration_length(d: Duration) -> Result<usize, Refusal>
     ensures { result ≡ length_of (duration_judged d) }
 {
-    if !held::duration_ok(d) {
-        Err(Refusal::BadField)
-    } else if !held::duration_parts_ok(d) {
-        Err(Refusal::BadParts)
-    } else {
-        Ok(length::duration_bytes(d))
-    }
+    text::check(held::duration_ok(d), Refusal::BadField)?;
+    text::check(held::duration_parts_ok(d), Refusal::BadParts)?;
+    Ok(length::duration_bytes(d))
 }
 
 // Writes a duration's text to the front of a buffer; refusals 2, then 4, then 1.
@@ -32,7 +28,5 @@ pub fn duration_length(d: Duration) -> Result<usize, Refusal>
 pub fn write_duration(buf: &mut [u8], d: Duration) -> Result<usize, Refusal>
     ensures { Wrote (duration_judged d) buf.old buf.new result }
 {
-    let n = text::fit(duration_length(d), buf.len())?;
-    put::put_duration(&mut Out { buf, at: 0 }, d);
-    Ok(n)
+    text::write_with(buf, duration_length(d), |out| put::put_duration(out, d))
 }

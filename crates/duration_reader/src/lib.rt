@@ -14,9 +14,7 @@ use text::Refusal;
 pub fn read_duration(t: &[u8]) -> DurationReading
     ensures { result ≡ read_duration t.now }
 {
-    if text::refusal::LONGEST < t.len() {
-        return Err(Refusal::TooLong);
-    }
+    text::check(t.len() <= text::refusal::LONGEST, Refusal::TooLong)?;
     let raw = duration_syntax::raw::duration(t).ok_or(Refusal::BadText)?;
     meaning::answer_raw(raw)
 }

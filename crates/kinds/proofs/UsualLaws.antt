@@ -1,19 +1,22 @@
 -- Stamp texts as most are, by the places of their bytes: what is read there is what the grammar reads. Assumes nothing.
+--     pair_is                                    two digits at a place
 --     day_lem                                    a date
 --     step, more, nine_digits                    the digits of a fraction: one more, and nine
 --     fraction_none, fraction_some               what stands up to where the fraction ends
 --     time_lem                                   a time, with its fraction
 --     utc_none, utc_zulu, utc_offset             what follows it
 --     end_is                                     where the fraction may end
---     no_tail, day_stamp, timed_stamp            the whole
-use Rattle.std.proofs.Common.{◌≡◌, ℕ, zero, suc, ◌+◌, ◌-◌, ◌*◌, ◌/◌, ◌<◌, ◌≤◌, Bool, true, false, ◌&&◌, ◌||◌, eqb, List, [], ◌∷◌, ◌++◌, length, get_or, drop, Option, Some, None, refl, ap, sym, ◌∙◌, add-zero, mul-le-mul_right, mul_assoc, add-mul, mul-le-mul_left, pow-suc, add-one, arith, drop_of_length-le, get_or-drop, drop-drop, lt-ltb, ne_eqb, eqb-true}
+--     day_stamp, timed_stamp                     the whole
+--     usual_small, usual_late, usual_shown_lem   what it is read as
+use Rattle.std.proofs.Common.{◌≡◌, ℕ, zero, suc, ◌+◌, ◌-◌, ◌*◌, ◌/◌, ◌<◌, ◌≤◌, Bool, true, false, ◌&&◌, ◌||◌, eqb, List, [], ◌∷◌, ◌++◌, length, get_or, drop, Option, Some, None, Ok, Err, refl, ap, sym, ◌∙◌, add-zero, mul-le-mul_right, mul_assoc, add-mul, mul-le-mul_left, pow-suc, add-one, arith, drop_of_length-le, get_or-drop, drop-drop, lt-ltb, le-ltb, ne_eqb, eqb-true}
 use mathlib.Core.Bool.{or-true}
 use Rattle.text.specs.Walk.{front}
 use Rattle.text.proofs.DigitLaws.{two, ten_pos}
 use Rattle.text.proofs.Answers.{both}
 use Rattle.names.specs.Grammar.{digit_byte, sign_byte}
-use Rattle.names.specs.Field.{digit, field}
+use Rattle.names.specs.Field.{digit, pair_of, field}
 use Rattle.names.proofs.FieldLaws.{field_sound}
+use Rattle.record.specs.declared.stamp.Date.{Date}
 use Rattle.date_syntax.specs.declared.DateRead.{DateRead}
 use Rattle.date_syntax.specs.Read.{marked, plain, year, year_month, date}
 use Rattle.time_syntax.specs.declared.fraction.Fraction.{Fraction}
@@ -24,11 +27,22 @@ use Rattle.time_syntax.proofs.Bytes.{one_of, digit_is}
 use Rattle.time_syntax.proofs.FractionLaws.{one, pair_step}
 use Rattle.tail_syntax.specs.Read.{opened, zone, none, notes, tail}
 use Rattle.grammar.specs.Read.{stamp, clock_at, timed_at}
-use Rattle.kinds.specs.Usual.{unit, end_byte, Tells, Rest, EndIs, DayAt, FractionAt, TimeAt, UtcAt}
+use Rattle.text.specs.declared.refusal.Refusal.TheVariants.{BadDay}
+use Rattle.meaning.specs.Shown.{Small, shown_date, shown}
+use Rattle.meaning.specs.Verdict.{verdict, late_date, faults_of}
+use Rattle.meaning.proofs.Years.{stamp_small}
+use Rattle.kinds.specs.declared.usual.Usual.{Usual}
+use Rattle.kinds.specs.Kinds.{stamp_answer}
+use Rattle.kinds.specs.Usual.{unit, end_byte, Tells, Rest, EndIs, DayAt, FractionAt, TimeAt, UtcAt, UsualIs, usual_shown}
 
 -- the byte at a place
 front-drop : (l : List ℕ) (i : ℕ) → front (drop i l) ≡ get_or l i 0
 front-drop l i = get_or-drop i l 0 0 ∙ ap (λ (k : ℕ). get_or l k 0) (add-zero i)
+
+-- two digits there
+pub pair_is : (lo hi : ℕ) (l : List ℕ) (i : ℕ) → pair_of lo hi (digit (get_or l i 0)) (digit (get_or l (i + 1) 0)) ≡ field lo hi (drop i l)
+unfolding field
+pair_is lo hi l i = rw (front-drop l i, drop-drop 1 i l, front-drop l (i + 1))
 
 -- a digit at the front of a field
 front-digit : (l : List ℕ) {n : ℕ} → field 0 99 l ≡ Some n → front l ≡ 48 + n / 10
@@ -113,17 +127,18 @@ pub fraction_none : (l : List ℕ) (e : ℕ) → e ≡ 19 → end_byte (front (d
 unfolding fraction_at
 fraction_none l e i end =
     let p = end_byte_lem (front (drop 19 l)) (rw i at end) (λ b. point_byte b ≡ false) refl refl refl refl in
-    record { fraction = rw p; some = refl; after = rw i }
+    record { fraction = rw p; some = refl; few = refl; after = rw i }
 
 -- a point and its digits
-pub fraction_some : (l : List ℕ) (e v : ℕ) → get_or l 19 0 ≡ 46 → 20 < e → end_byte (front (drop e l)) ≡ true → Tells l e v
+pub fraction_some : (l : List ℕ) (e v : ℕ) → get_or l 19 0 ≡ 46 → 20 < e → e < 30 → end_byte (front (drop e l)) ≡ true → Tells l e v
     → FractionAt l e (Some (record { point = 46; nanos = v; digits = e - 20 }))
 unfolding fraction_at
-fraction_some l e v point least end tells =
+fraction_some l e v point least most end tells =
     let i : 20 + (e - 20) ≡ e = omega arith in
     record {
       fraction = rw (front-drop l 19, point, drop-drop 1 19 l) (ap Some (tells ∙ stops 46 (drop e l) (e - 20) (unit (e - 20) / 10) v end));
       some = lt-ltb 0 (e - 20) (omega arith);
+      few = le-ltb 9 (e - 20) (omega arith);
       after = rw (drop-drop 1 19 l, drop-drop (e - 20) 20 l, i);
     }
 
@@ -153,6 +168,7 @@ time_lem l e eh em es colons at =
             at.fraction,
             at.some,
           );
+      few = at.few;
       after = rw (drop-drop 5 11 l, drop-drop 3 16 l) at.after;
     }
 
@@ -169,13 +185,13 @@ end_is l e h = go (length l - e) refl h.rest
 -- nothing, `Z`, and an offset are read as what they are
 pub utc_none : (l : List ℕ) (e : ℕ) → length l ≡ e → UtcAt l e None
 unfolding utc
-utc_none l e i = let d = drop_of_length-le l {i = e} (omega arith) in record { utc = rw d; after = d }
+utc_none l e i = let d = drop_of_length-le l {i = e} (omega arith) in record { utc = rw d; few = refl; after = d }
 
 pub utc_zulu : (l : List ℕ) (e : ℕ) → EndIs l e → length l - e ≡ 1 → UtcAt l e (Some (UtcRead.Z 90))
 unfolding utc
 utc_zulu l e h i =
     let z : get_or l e 0 ≡ 90 = rw i at h.rest in
-    record { utc = rw (front-drop l e, z); after = drop-drop 1 e l ∙ drop_of_length-le l {i = e + 1} (omega arith) }
+    record { utc = rw (front-drop l e, z); few = refl; after = drop-drop 1 e l ∙ drop_of_length-le l {i = e + 1} (omega arith) }
 
 offset_rest : (l : List ℕ) (e : ℕ) → EndIs l e → (length l ≡ e → ⊥) → (length l - e ≡ 1 → ⊥)
     → (length l - e ≡ 6) × (sign_byte (get_or l e 0) ≡ true) × (get_or l (e + 3) 0 ≡ 58)
@@ -213,6 +229,7 @@ module _ (l : List ℕ) (e : ℕ) {h m : ℕ} (eh : Some h ≡ field 0 23 (drop 
       let z = one_of (get_or l e 0) 43 45 r.1 (λ b. zulu_byte b ≡ false) refl refl in
       record {
         utc = rw (front-drop l e, z, r.1, drop-drop 1 e l, short_time r.0 r.2);
+        few = refl;
         after = rw (drop-drop 1 e l, drop-drop 5 (e + 1) l) (drop_of_length-le l {i = e + 1 + 5} (let s = r.0 in omega arith));
       }
 
@@ -221,14 +238,30 @@ no_tail : tail [] ≡ Some (record { zone = None; notes = none })
 unfolding tail zone opened notes
 no_tail = refl
 
-pub day_stamp : (l : List ℕ) {d : DateRead} → length l ≡ 10 → DayAt l d → stamp l ≡ Some (record { date = d; clock = None; tail = record { zone = None; notes = none } })
+pub day_stamp : (l : List ℕ) {d : DateRead} → length l ≡ 10 → DayAt l d → UsualIs l (record { date = d; clock = None })
 unfolding stamp
-day_stamp l i at = rw (at.date, at.plain, drop_of_length-le l {i = 10} (omega arith), no_tail)
+day_stamp l i at = record { read = rw (at.date, at.plain, drop_of_length-le l {i = 10} (omega arith), no_tail); few = refl }
 
 pub timed_stamp : (l : List ℕ) (e : ℕ) {d : DateRead} {t : TimeRead} {u : Option UtcRead} → DayAt l d → get_or l 10 0 ≡ 84 → TimeAt l e t → UtcAt l e u
-    → stamp l ≡ Some (record { date = d; clock = Some (record { lead = Some 84; time = t; utc = u }); tail = record { zone = None; notes = none } })
+    → UsualIs l (record { date = d; clock = Some (record { lead = Some 84; time = t; utc = u }) })
 unfolding stamp timed_at clock_at
 timed_stamp l e {t = x} {u = y} at lead t u =
     let utc_read : utc (past x (drop 11 l)) ≡ Some y = rw t.after u.utc in
     let tail_read : tail (past_utc y (past x (drop 11 l))) ≡ Some (record { zone = None; notes = none }) = rw t.after (rw u.after no_tail) in
-    rw (at.date, at.plain, front-drop l 10, lead, drop-drop 1 10 l, t.time, utc_read, tail_read)
+    record {
+      read = rw (at.date, at.plain, front-drop l 10, lead, drop-drop 1 10 l, t.time, utc_read, tail_read);
+      few = rw (t.few, u.few);
+    }
+
+-- ---- what it is read as
+module _ (l : List ℕ) {u : Usual} (is : UsualIs l u) where
+  pub usual_small : Small u.date
+  usual_small = stamp_small l is.read
+
+  pub usual_late : {d : Date} → d ≡ shown_date u.date → true ≡ late_date d → Err BadDay ≡ stamp_answer l
+  unfolding stamp_answer faults_of verdict
+  usual_late e late = let h : late_date (shown_date u.date) ≡ true = ap late_date (sym e) ∙ sym late in rw (is.read, is.few, h)
+
+  pub usual_shown_lem : {d : Date} → d ≡ shown_date u.date → false ≡ late_date d → Ok (usual_shown d u.clock) ≡ stamp_answer l
+  unfolding stamp_answer faults_of verdict shown
+  usual_shown_lem e late = let h : late_date (shown_date u.date) ≡ false = ap late_date (sym e) ∙ sym late in rw (is.read, is.few, h, e)

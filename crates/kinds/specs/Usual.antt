@@ -1,13 +1,21 @@
 -- Stamp texts as most are, by the places of their bytes: what their parts are read as, and where their fractions end. These say nothing that must be
 -- believed: the readers' contracts cite `Kinds`. Assumes nothing: these are definitions.
-use Rattle.std.specs.Prelude.{◌≡◌, ℕ, zero, suc, ◌+◌, ◌-◌, ◌/◌, ◌^◌, ◌≤◌, Bool, true, false, ◌||◌, List, [], length, drop, ◌==◌, slice_index, Option, Some}
+use Rattle.std.specs.Prelude.{◌≡◌, ℕ, zero, suc, ◌+◌, ◌-◌, ◌/◌, ◌^◌, ◌≤◌, Bool, true, false, ◌||◌, ltb, List, [], length, drop, ◌==◌, slice_index, Option, Some, None, option_map, option_and_then}
 use Rattle.names.specs.Grammar.{sign_byte}
+use Rattle.record.specs.declared.stamp.Date.{Date}
+use Rattle.record.specs.declared.shown.Shown.{Shown}
 use Rattle.date_syntax.specs.declared.DateRead.{DateRead}
 use Rattle.date_syntax.specs.Read.{date}
 use Rattle.time_syntax.specs.declared.fraction.Fraction.{Fraction}
 use Rattle.time_syntax.specs.declared.TimeRead.{TimeRead}
 use Rattle.time_syntax.specs.declared.UtcRead.{UtcRead}
-use Rattle.time_syntax.specs.Read.{digits_from, fraction_of, fraction_at, has_digits, past_fraction, time, past, utc, past_utc}
+use Rattle.time_syntax.specs.Read.{digits_from, fraction_of, fraction_at, has_digits, digits_in, past_fraction, fraction_in, time, past, utc, past_utc}
+use Rattle.tail_syntax.specs.Read.{none}
+use Rattle.grammar.specs.declared.ClockRead.{ClockRead}
+use Rattle.grammar.specs.Read.{stamp}
+use Rattle.meaning.specs.Shown.{shown_time, shown_utc}
+use Rattle.meaning.specs.Verdict.{utc_long, long_fraction}
+use Rattle.kinds.specs.declared.usual.Usual.{Usual}
 
 -- how many nanoseconds the last of k digits of a fraction counts by
 abbrev pub unit : ℕ → ℕ
@@ -42,12 +50,31 @@ pub record DayAt (l : List ℕ) (d : DateRead) : Type 0 where
 pub record FractionAt (l : List ℕ) (e : ℕ) (f : Option Fraction) : Type 0 where
   pub fraction : fraction_at (drop 19 l) ≡ f
   pub some : has_digits f ≡ true
+  pub few : ltb 9 (digits_in f) ≡ false
   pub after : past_fraction f (drop 19 l) ≡ drop e l
 
 pub record TimeAt (l : List ℕ) (e : ℕ) (t : TimeRead) : Type 0 where
   pub time : time (drop 11 l) ≡ Some t
+  pub few : ltb 9 (digits_in (fraction_in t.seconds)) ≡ false
   pub after : past t (drop 11 l) ≡ drop e l
 
 pub record UtcAt (l : List ℕ) (e : ℕ) (u : Option UtcRead) : Type 0 where
   pub utc : utc (drop e l) ≡ Some u
+  pub few : utc_long u ≡ false
   pub after : past_utc u (drop e l) ≡ []
+
+-- ---- the whole: it has no zone and no annotations, and no fraction of more than nine digits
+pub record UsualIs (l : List ℕ) (u : Usual) : Type 0 where
+  pub read : stamp l ≡ Some (record { date = u.date; clock = u.clock; tail = record { zone = None; notes = none } })
+  pub few : long_fraction u.clock ≡ false
+
+-- what it shows
+abbrev pub usual_shown : Date → Option ClockRead → Shown
+usual_shown d c =
+    record {
+      date = Some d;
+      time = option_map (λ c. shown_time c.time) c;
+      offset = option_map shown_utc (option_and_then (λ c. c.utc) c);
+      zone = None;
+      calendar = None;
+    }

@@ -36,7 +36,7 @@ pub fn shown_month_day(d: MonthDayRead) -> Date
 fn second_of(s: u8) -> u8
     ensures { result ≡ second s }
 {
-    if s < 60 { s } else { 59 }
+    s.min(59)
 }
 
 // A time as it stands; absent seconds and fractions are 0.
@@ -51,7 +51,7 @@ fn clock_of(t: TimeRead) -> Clock
     }
 }
 
-fn shown_time(t: TimeRead) -> Clock
+pub fn shown_time(t: TimeRead) -> Clock
     ensures { result ≡ shown_time t }
 {
     Clock {
@@ -60,7 +60,7 @@ fn shown_time(t: TimeRead) -> Clock
     }
 }
 
-fn shown_utc(u: UtcRead) -> ShownOffset
+pub fn shown_utc(u: UtcRead) -> ShownOffset
     ensures { result ≡ shown_utc u }
 {
     match u {

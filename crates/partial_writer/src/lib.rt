@@ -115,13 +115,12 @@ fn year_month_bytes(lent: &[u8], d: Date, c: Calendar) -> usize
 pub fn month_day_length(lent: &[u8], d: Date, c: Calendar) -> Result<usize, Refusal>
     ensures { result ≡ length_of (month_day_judged lent.now d c) }
 {
-    if !date_writer::date::date_ok(d) {
-        Err(Refusal::BadField)
-    } else if !tail_writer::calendar::calendar_ok(lent, c) {
-        Err(Refusal::BadName)
-    } else {
-        Ok(month_day_bytes(lent, d, c))
-    }
+    text::check(date_writer::date::date_ok(d), Refusal::BadField)?;
+    text::check(
+        tail_writer::calendar::calendar_ok(lent, c),
+        Refusal::BadName,
+    )?;
+    Ok(month_day_bytes(lent, d, c))
 }
 
 // The exact length of a year-month's text; 2 for a date out of range, 3 for what is no calendar name.
@@ -129,13 +128,12 @@ pub fn month_day_length(lent: &[u8], d: Date, c: Calendar) -> Result<usize, Refu
 pub fn year_month_length(lent: &[u8], d: Date, c: Calendar) -> Result<usize, Refusal>
     ensures { result ≡ length_of (year_month_judged lent.now d c) }
 {
-    if !date_writer::date::date_ok(d) {
-        Err(Refusal::BadField)
-    } else if !tail_writer::calendar::calendar_ok(lent, c) {
-        Err(Refusal::BadName)
-    } else {
-        Ok(year_month_bytes(lent, d, c))
-    }
+    text::check(date_writer::date::date_ok(d), Refusal::BadField)?;
+    text::check(
+        tail_writer::calendar::calendar_ok(lent, c),
+        Refusal::BadName,
+    )?;
+    Ok(year_month_bytes(lent, d, c))
 }
 
 // Writes a month-day's text to the front of a buffer; refusals 2, 3, then 1.
@@ -143,9 +141,11 @@ pub fn year_month_length(lent: &[u8], d: Date, c: Calendar) -> Result<usize, Ref
 pub fn write_month_day(buf: &mut [u8], lent: &[u8], d: Date, c: Calendar) -> Result<usize, Refusal>
     ensures { Wrote (month_day_judged lent.now d c) buf.old buf.new result }
 {
-    let n = text::fit(month_day_length(lent, d, c), buf.len())?;
-    put_month_day(&mut Out { buf, at: 0 }, lent, d, c);
-    Ok(n)
+    text::write_with(
+        buf,
+        month_day_length(lent, d, c),
+        |out| put_month_day(out, lent, d, c),
+    )
 }
 
 // Writes a year-month's text to the front of a buffer; refusals 2, 3, then 1.
@@ -153,7 +153,9 @@ pub fn write_month_day(buf: &mut [u8], lent: &[u8], d: Date, c: Calendar) -> Res
 pub fn write_year_month(buf: &mut [u8], lent: &[u8], d: Date, c: Calendar) -> Result<usize, Refusal>
     ensures { Wrote (year_month_judged lent.now d c) buf.old buf.new result }
 {
-    let n = text::fit(year_month_length(lent, d, c), buf.len())?;
-    put_year_month(&mut Out { buf, at: 0 }, lent, d, c);
-    Ok(n)
+    text::write_with(
+        buf,
+        year_month_length(lent, d, c),
+        |out| put_year_month(out, lent, d, c),
+    )
 }

@@ -4,19 +4,16 @@
 --     auto_nine, digit_nine               where that is all nine digits
 --     auto_none, minute-none, digit-none  where that is nothing
 use mathlib.Core.Path.{◌≡◌, refl, sym, ap, ◌∙◌}
-use mathlib.Core.Bool.{true, not}
-use mathlib.Core.List.{List, [], ◌∷◌}
-use Prim.Native.Nat.{ℕ, zero, suc, ◌<◌, ◌≤◌, ◌%◌, zero-le, min}
+use mathlib.Core.List.{List, ◌∷◌}
+use Prim.Native.Nat.{ℕ, zero, suc, ◌<◌, ◌≤◌, ◌%◌, min}
 use native.Mathlib.Omega.{arith}
-use borrow.Author.Tests.{leb-true, eqb-true, eqb-false, not-true}
 use native.Mathlib.Decide.{dec_lt}
-use lib.Dec.{eqb, leb, lit<, lit≤}
+use lib.Dec.{lit<, lit≤}
 use lib.ListN.{length, take}
 use lib.Seq.{take_all}
-use Rattle.text.specs.Digits.{digits, shown, decimal, last_nonzero, pointed, fraction, Span}
-use Rattle.text.proofs.DigitLaws.{length_digits, last_found, span_of, fraction_none, length-fraction}
+use Rattle.text.specs.Digits.{digits, shown, decimal, last_nonzero, pointed, fraction}
+use Rattle.text.proofs.DigitLaws.{length_digits, last_found, fraction_none, length-fraction}
 use Rattle.record.specs.declared.stamp.Precision.{Precision}
-use Rattle.record.specs.declared.stamp.Precision.TheVariants.{Auto, Minute, Digit}
 use Rattle.precision.specs.Precision.{digits_shown, sub_second}
 
 -- there are nine digits, and no more of them are shown however many are asked for

@@ -59,11 +59,8 @@ pub fn calendar_ok(lent: &[u8], c: Calendar) -> bool
 pub fn calendar_length(lent: &[u8], c: Calendar) -> Result<usize, Refusal>
     ensures { result ≡ length_of (calendar_judged lent.now c) }
 {
-    if calendar_ok(lent, c) {
-        Ok(calendar_bytes(lent, c))
-    } else {
-        Err(Refusal::BadName)
-    }
+    text::check(calendar_ok(lent, c), Refusal::BadName)?;
+    Ok(calendar_bytes(lent, c))
 }
 
 // Writes a calendar's text to the front of a buffer; refusals 3, then 1.
@@ -71,7 +68,9 @@ pub fn calendar_length(lent: &[u8], c: Calendar) -> Result<usize, Refusal>
 pub fn write_calendar(buf: &mut [u8], lent: &[u8], c: Calendar) -> Result<usize, Refusal>
     ensures { Wrote (calendar_judged lent.now c) buf.old buf.new result }
 {
-    let n = text::fit(calendar_length(lent, c), buf.len())?;
-    put_calendar(&mut Out { buf, at: 0 }, lent, c);
-    Ok(n)
+    text::write_with(
+        buf,
+        calendar_length(lent, c),
+        |out| put_calendar(out, lent, c),
+    )
 }

@@ -50,11 +50,8 @@ pub fn zone_ok(lent: &[u8], z: Zone) -> bool
 pub fn zone_length(lent: &[u8], z: Zone) -> Result<usize, Refusal>
     ensures { result ≡ length_of (zone_judged lent.now z) }
 {
-    if zone_ok(lent, z) {
-        Ok(zone_bytes(lent, z))
-    } else {
-        Err(Refusal::BadName)
-    }
+    text::check(zone_ok(lent, z), Refusal::BadName)?;
+    Ok(zone_bytes(lent, z))
 }
 
 // Writes a zone's text to the front of a buffer; refusals 3, then 1.
@@ -62,7 +59,5 @@ pub fn zone_length(lent: &[u8], z: Zone) -> Result<usize, Refusal>
 pub fn write_zone(buf: &mut [u8], lent: &[u8], z: Zone) -> Result<usize, Refusal>
     ensures { Wrote (zone_judged lent.now z) buf.old buf.new result }
 {
-    let n = text::fit(zone_length(lent, z), buf.len())?;
-    put_zone(&mut Out { buf, at: 0 }, lent, z);
-    Ok(n)
+    text::write_with(buf, zone_length(lent, z), |out| put_zone(out, lent, z))
 }

@@ -15,9 +15,9 @@ pub fn found_name(text: &[u8], found: &[u8]) -> Option<Name> {
     if found.is_empty() {
         return None;
     }
-    let at = (0..text.len()).find(|&at| ends_key(part(text, 0, at)));
+    let at = (0..text.len()).find(|&at| ends_key(part(text, 0, at)))?;
     Some(Name {
-        at: at.unwrap_or(text.len()),
+        at,
         len: found.len(),
     })
 }

@@ -2,12 +2,11 @@
 --     length_digits, length-decimal    k digits are k bytes
 --     digit_small, all_digits          each is below ten
 --     digits_snoc                      the last digit apart: by quotient and remainder, as a recursive writer goes
---     pair_low, four_pairs, nine_pairs two digits at a time
 --     value_digits, value_below        read back they stand for n mod 10 ^ k: for n itself below it
 --     digits_injective                 two numbers below 10 ^ k with the same k digits are one
 --     digits_value                     digits stand for a number whose digits they are
 --     unshown-shown, decimal_back      from bytes to digits, and what reading a padded number gives
---     span_of, span_more, length_span  digits from a place to a place
+--     span_more, length_span           digits from a place to a place
 --     split_more, split_div            a loop that splits a number into digits
 --     last_skip, last_found, last_le   the place of the last digit that is not 0
 --     fraction_none, fraction_some     a fraction is nothing, or a point and digits
@@ -22,7 +21,7 @@ use lib.Arith.{mod-mul, digits_div, digits_mod}
 use lib.Dec.{lit<}
 use lib.ListN.{length, get_or, take, drop, set, length-map}
 use lib.Seq.{slice, take-suc, length-take-le, drop-append-le, length-slice, set_split, drop_at, append_snoc}
-use Rattle.text.specs.Digits.{digits, shown, unshown, decimal, AllDigits, value_from, value_of, last_step, last_nonzero, Span, fraction}
+use Rattle.text.specs.Digits.{digits, shown, unshown, decimal, AllDigits, value_from, value_of, last_step, last_nonzero, fraction}
 
 pub length_digits : (k n : ℕ) → length (digits k n) ≡ k
 length_digits zero n = refl
@@ -42,38 +41,12 @@ pub digits_snoc : (k n : ℕ) → digits (suc k) n ≡ digits k (n / 10) ++ (n %
 digits_snoc zero n = let e : n / 1 % 10 ≡ n % 10 = omega arith in rw e
 digits_snoc (suc k) n = rw (digits_snoc k n, pow-succ' 10 k, ← div-div-eq-div-mul n 10 (10 ^ k))
 
--- the nine digits hold the six of an extended year and the four of a year, by computation
-pub six_of_nine : (n : ℕ) → slice 3 9 (digits 9 n) ≡ digits 6 n
-six_of_nine n = refl
-
-pub four_of_nine : (n : ℕ) → slice 5 9 (digits 9 n) ≡ digits 4 n
-four_of_nine n = refl
-
--- a span of the nine digits of a number
-pub span_of : {ds : List ℕ} (n : ℕ) {f t : ℕ} → ds ≡ digits 9 n → f ≤ t → t ≤ 9 → Span ds f t
-span_of n e p q = record { order = p; inside = q; small = rw e (digit_small 9 n) }
-
 -- a number below 100 by its quotient and its remainder
 pub two : (n : ℕ) → n < 100 → decimal 2 n ≡ (48 + n / 10) ∷ (48 + n % 10) ∷ []
 two n h =
     let hi : n / 10 % 10 ≡ n / 10 = omega arith in
     let lo : n / 1 % 10 ≡ n % 10 = omega arith in
     rw (hi, lo)
-
--- the two low digits are those of what is below 100
-pub pair_low : (n : ℕ) → decimal 2 (n % 100) ≡ decimal 2 n
-pair_low n =
-    let hi : n % 100 / 10 % 10 ≡ n / 10 % 10 = omega arith in
-    let lo : n % 100 / 1 % 10 ≡ n / 1 % 10 = omega arith in
-    rw (hi, lo)
-
--- four and nine digits, two at a time
-pub four_pairs : (n : ℕ) → decimal 4 n ≡ decimal 2 (n / 100) ++ decimal 2 n
-four_pairs n = simp div-div-eq-div-mul
-
-pub nine_pairs : (n : ℕ)
-    → decimal 9 n ≡ decimal 2 (n / 10000000) ++ decimal 2 (n / 100000) ++ decimal 2 (n / 1000) ++ decimal 2 (n / 10) ++ ((48 + n % 10) ∷ [])
-nine_pairs n = let e : n / 1 % 10 ≡ n % 10 = omega arith in simp (div-div-eq-div-mul, e)
 
 -- one digit more of a span
 pub span_more : (f i : ℕ) (ds : List ℕ) → f ≤ i → i < length ds → shown (slice f (i + 1) ds) ≡ shown (slice f i ds) ++ ((48 + get_or ds i 0) ∷ [])

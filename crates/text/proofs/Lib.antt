@@ -1,6 +1,5 @@
 -- What several proofs, and the crates above, cite.
 pub mod Tests
-pub mod WalkLaws
 pub mod OutLaws
 pub mod DigitLaws
 pub mod NumberLaws

@@ -4,7 +4,7 @@
 --     below_width, width_least      n has no more digits than `width n`, and no fewer
 --     width_le                      a bound on n bounds its width: 20 for 64 bits
 --     number_small, number_more     the text: the quotient's, then the last digit
---     length_number                 its length is the width
+--     length-number                 its length is the width
 --     number_back                   reading it gives n
 --     number_only                   digits without a leading zero that stand for n are those written
 -- Assumes nothing.
@@ -91,9 +91,9 @@ width_le (suc k) n h = go (dec_lt n 10) (width_le k (n / 10))
         omega (arith, width_more n (omega arith), ih l)
 
 -- ---- the text
-pub length_number : (n : ℕ) → length (number n) ≡ width n
+pub length-number : (n : ℕ) → length (number n) ≡ width n
 unfolding number
-length_number n = length-decimal (width n) n
+length-number n = length-decimal (width n) n
 
 pub number_small : (n : ℕ) → n < 10 → number n ≡ (48 + n) ∷ []
 unfolding number

@@ -3,7 +3,7 @@ ghost use Rattle.std.specs.Prelude.{◌≡◌};
 ghost use Rattle.text.specs.Digits.{digits, last_nonzero};
 
 // The nine low digits, the most significant first, and the 1-based place of the last that is not 0 (0: all are 0).
-#[derive(Clone, Copy)]
+#[derive(Clone, Copy, Debug, PartialEq, Eq)]
 pub struct NineDigits {
     pub digits: [u8; 9],
     pub last: usize,

@@ -1,8 +1,10 @@
 // Bytes and digits: what every writer puts into a buffer and answers, and what every reader walks on.
 #![tactic(auto)]
 
-ghost use Rattle.std.specs.Prelude.{◌≡◌};
+ghost use Rattle.std.specs.Prelude.{cond, Ok, Err, length, ◌≡◌};
 ghost use Rattle.text.specs.Answer.{fit_of};
+ghost use Rattle.text.specs.Out.{AtFront};
+ghost use Rattle.text.specs.declared.out.Out.{Out};
 
 pub mod digits;
 pub mod out;
@@ -10,7 +12,15 @@ pub mod put;
 pub mod refusal;
 pub mod walk;
 
+use out::Out;
 pub use refusal::Refusal;
+
+// A test that a record has to pass, and its refusal if it does not.
+pub fn check(ok: bool, refusal: Refusal) -> Result<(), Refusal>
+    ensures { result ≡ cond ok (Ok tt) (Err refusal) }
+{
+    if ok { Ok(()) } else { Err(refusal) }
+}
 
 // A writer's answer from its length function's and the room that the buffer has.
 pub fn fit(length: Result<usize, Refusal>, room: usize) -> Result<usize, Refusal>
@@ -22,4 +32,20 @@ pub fn fit(length: Result<usize, Refusal>, room: usize) -> Result<usize, Refusal
     } else {
         Err(Refusal::NoRoom)
     }
+}
+
+// Writes to the front of a buffer by `put` what has a length and room there; a refusal leaves the buffer as it was.
+pub fn write_with<F: FnOnce(&mut Out<'_>)>(
+    buf: &mut [u8],
+    count: Result<usize, Refusal>,
+    put: F,
+) -> Result<usize, Refusal>
+    requires { (n : _) → Ok n ≡ fit_of count (length buf.old) → ((out : Out) → AtFront buf.old out → ((lent : _) → lent.now ≡ out → F.pre put lent)) }
+    ensures answer { result ≡ fit_of count (length buf.old) }
+    ensures refused { (k : _) → result ≡ Err k → buf.new ≡ buf.old }
+    ensures put_there { (n : _) → result ≡ Ok n → ((lent : _) × (left : _) × AtFront buf.old lent.now × F.post put lent tt left × (left.now.buf.ghost_name ≡ lent.now.buf.ghost_name → buf.new ≡ left.now.buf.now)) }
+{
+    let n = fit(count, buf.len())?;
+    put(&mut Out { buf, at: 0 });
+    Ok(n)
 }

@@ -1,6 +1,6 @@
 // What readers walk on: the first byte of a text, what is left of it, and its parts. Past the end a text reads as 0, which is no byte of the grammar.
 ghost use Rattle.std.specs.Prelude.{◌≡◌, ◌-◌, length, take, drop};
-ghost use Rattle.text.specs.Walk.{front, same_bytes};
+ghost use Rattle.text.specs.Walk.{front};
 
 // The first byte, or 0.
 pub fn first(t: &[u8]) -> u8
@@ -36,11 +36,4 @@ pub fn last(t: &[u8], n: usize) -> &[u8]
     } else {
         rest(t, 0)
     }
-}
-
-// The two texts are the same, byte by byte.
-pub fn same(t: &[u8], u: &[u8]) -> bool
-    ensures { result ≡ same_bytes t.now u.now }
-{
-    t == u
 }

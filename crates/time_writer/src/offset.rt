@@ -89,11 +89,8 @@ pub fn offset_ok(o: Offset) -> bool
 pub fn offset_length(o: Offset) -> Result<usize, Refusal>
     ensures { result ≡ length_of (offset_judged o) }
 {
-    if offset_ok(o) {
-        Ok(offset_bytes(o))
-    } else {
-        Err(Refusal::BadField)
-    }
+    text::check(offset_ok(o), Refusal::BadField)?;
+    Ok(offset_bytes(o))
 }
 
 // Writes an offset's text to the front of a buffer; refusals 2, then 1.
@@ -101,7 +98,5 @@ pub fn offset_length(o: Offset) -> Result<usize, Refusal>
 pub fn write_offset(buf: &mut [u8], o: Offset) -> Result<usize, Refusal>
     ensures { Wrote (offset_judged o) buf.old buf.new result }
 {
-    let n = text::fit(offset_length(o), buf.len())?;
-    put_offset(&mut Out { buf, at: 0 }, o);
-    Ok(n)
+    text::write_with(buf, offset_length(o), |out| put_offset(out, o))
 }

@@ -84,11 +84,8 @@ pub fn time_ok(t: Time) -> bool
 pub fn time_length(t: Time) -> Result<usize, Refusal>
     ensures { result ≡ length_of (time_judged t) }
 {
-    if time_ok(t) {
-        Ok(time_bytes(t))
-    } else {
-        Err(Refusal::BadField)
-    }
+    text::check(time_ok(t), Refusal::BadField)?;
+    Ok(time_bytes(t))
 }
 
 // Writes a time's text to the front of a buffer; refusals 2, then 1.
@@ -96,7 +93,5 @@ pub fn time_length(t: Time) -> Result<usize, Refusal>
 pub fn write_time(buf: &mut [u8], t: Time) -> Result<usize, Refusal>
     ensures { Wrote (time_judged t) buf.old buf.new result }
 {
-    let n = text::fit(time_length(t), buf.len())?;
-    put_time(&mut Out { buf, at: 0 }, t);
-    Ok(n)
+    text::write_with(buf, time_length(t), |out| put_time(out, t))
 }

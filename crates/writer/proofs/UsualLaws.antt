@@ -3,19 +3,17 @@
 --     usual_most    the text of the whole has at most 30 bytes
 --     clock_in      the fields of a time that passes its test have two digits
 --     usually       what is kept of a stamp is its text
-use mathlib.Core.Path.{◌≡◌, refl, ap}
+use mathlib.Core.Path.{◌≡◌, refl}
 use mathlib.Core.Bool.{Bool, true, false, cond, or-true}
 use mathlib.Core.List.{List, [], ◌∷◌, ◌++◌, append_assoc, append-nil}
-use Prim.Native.Nat.{ℕ, ◌+◌, ◌≤◌, ◌<◌}
+use Prim.Native.Nat.{ℕ, ◌≤◌, ◌<◌}
 use native.Mathlib.Omega.{arith}
 use lib.ListN.{length, length-append}
 use Rattle.std.specs.Prelude.{Option, Some, None}
-use Rattle.text.specs.Digits.{decimal}
 use Rattle.text.specs.Put.{mark}
 use Rattle.text.proofs.OutLaws.{mark_most}
 use Rattle.record.specs.declared.stamp.Precision.{Precision}
 use Rattle.record.specs.declared.stamp.Precision.TheVariants.{Auto, Minute, Digit}
-use Rattle.record.specs.declared.stamp.Clock.{Clock}
 use Rattle.record.specs.declared.stamp.Date.{Date}
 use Rattle.record.specs.declared.stamp.Time.{Time}
 use Rattle.record.specs.declared.stamp.DisplayOffset.{DisplayOffset}
@@ -26,7 +24,7 @@ use Rattle.record.specs.declared.stamp.Offset.{Offset}
 use Rattle.record.specs.declared.stamp.Stamp.{Stamp}
 use Rattle.precision.specs.Precision.{sub_second}
 use Rattle.precision.proofs.SubSecond.{sub_second_most}
-use Rattle.date_writer.specs.Date.{year_text, dashed, date_text, date_ok}
+use Rattle.date_writer.specs.Date.{date_text, date_ok}
 use Rattle.time_writer.specs.Time.{seconds, unless_minute, time_text, time_ok}
 use Rattle.time_writer.specs.Offset.{unless_never, utc_text, offset_text, utc_ok, offset_ok}
 use Rattle.time_writer.proofs.TimeLaws.{time_in}

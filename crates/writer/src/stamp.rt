@@ -116,15 +116,10 @@ fn parts_ok(s: Stamp) -> bool
 pub fn stamp_length(lent: &[u8], s: Stamp) -> Result<usize, Refusal>
     ensures { result ≡ length_of (stamp_judged lent.now s) }
 {
-    if !fields_ok(s) {
-        Err(Refusal::BadField)
-    } else if !names_ok(lent, s) {
-        Err(Refusal::BadName)
-    } else if !parts_ok(s) {
-        Err(Refusal::BadParts)
-    } else {
-        Ok(stamp_bytes(lent, s))
-    }
+    text::check(fields_ok(s), Refusal::BadField)?;
+    text::check(names_ok(lent, s), Refusal::BadName)?;
+    text::check(parts_ok(s), Refusal::BadParts)?;
+    Ok(stamp_bytes(lent, s))
 }
 
 // Any stamp, its length first.
@@ -132,9 +127,7 @@ pub fn stamp_length(lent: &[u8], s: Stamp) -> Result<usize, Refusal>
 fn write_any(buf: &mut [u8], lent: &[u8], s: Stamp) -> Result<usize, Refusal>
     ensures { Wrote (stamp_judged lent.now s) buf.old buf.new result }
 {
-    let n = text::fit(stamp_length(lent, s), buf.len())?;
-    put_stamp(&mut Out { buf, at: 0 }, lent, s);
-    Ok(n)
+    text::write_with(buf, stamp_length(lent, s), |out| put_stamp(out, lent, s))
 }
 
 // Writes a stamp's text to the front of a buffer; refusals 2, 3, 4, then 1. A stamp as most are, whose text has at most 30 bytes, is written at once.

@@ -7,4 +7,5 @@ returns-then-end-eq19 c = fraction_none c.args.t.now c.args.end c.if-end-eq19.tr
 
 pub returns-then-t-eq46 : goal.returns-then-t-eq46
 returns-then-t-eq46 c =
-    fraction_some c.args.t.now c.args.end c.in_ok-nanos.nanos c.if-t-eq46.true c.in_ok-nanos.ensures.0 c.requires.2 c.in_ok-nanos.ensures.1
+    let n = c.in_ok-nanos.ensures in
+    fraction_some c.args.t.now c.args.end c.in_ok-nanos.nanos c.if-t-eq46.true n.0 n.1 c.requires.2 n.2
