@@ -104,7 +104,17 @@ impl<const N: usize> Row<N> {
         self.number(n);
     }
 
-    // A byte as it is where ASCII prints it, but the backslash; else `\x` and two digits.
+    // `\x` and two digits.
+    fn hex_byte(&mut self, b: u8)
+        requires { length self.old + 4 ≤ N }
+        ensures { length self.new ≡ length self.old + 4 }
+    {
+        self.text("\\x");
+        self.byte(hex_digit(b / 16));
+        self.byte(hex_digit(b % 16));
+    }
+
+    // A byte as it is where ASCII prints it, but the backslash; else in hexadecimal.
     fn shown_byte(&mut self, b: u8)
         requires { length self.old + 4 ≤ N }
         ensures { Within (length self.old) 4 (length self.new) }
@@ -112,9 +122,7 @@ impl<const N: usize> Row<N> {
         if matches!(b, b' '..=b'~') && b != b'\\' {
             self.byte(b);
         } else {
-            self.text("\\x");
-            self.byte(hex_digit(b / 16));
-            self.byte(hex_digit(b % 16));
+            self.hex_byte(b);
         }
     }
 

@@ -1,5 +1,5 @@
 // The words of the audit, each said once: why a text is refused, the names of the goals, the months, how the year's width changes.
-ghost use Rattle.std.specs.Prelude.{◌+◌, ◌≤◌, length, IfSome};
+ghost use Rattle.std.specs.Prelude.{◌≡◌, ◌+◌, ◌≤◌, length, IfSome};
 ghost use Rattle.audit_words.specs.Within.{Within};
 
 use crate::row::Row;
@@ -80,11 +80,13 @@ pub fn goal_name(goal: Goal) -> &'static str
     }
 }
 
-// The name of a month, short; nothing for what is no month.
+// The name of a month, short, and three dashes for month 0; nothing for what is no month.
 pub fn month_name(month: u8) -> &'static str
-    ensures { length result.now ≤ 3 }
+    ensures most { length result.now ≤ 3 }
+    ensures three { month ≤ 12 → length result.now ≡ 3 }
 {
     match month {
+        0 => "---",
         1 => "Jan",
         2 => "Feb",
         3 => "Mar",

@@ -109,7 +109,7 @@ fn any_time(n: TimeNumbers) -> bool
 
 // The seconds are written.
 #[tactic(auto, using(crate::proofs::DurationLaws::absent), unfolding(crate::specs::Duration::seconds_shown))]
-fn seconds_shown(d: Duration) -> bool
+pub fn seconds_shown(d: Duration) -> bool
     ensures { result ≡ seconds_shown d }
 {
     let n = time_numbers(d.time);

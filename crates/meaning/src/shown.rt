@@ -33,7 +33,7 @@ pub fn shown_month_day(d: MonthDayRead) -> Date
 }
 
 // Second 60 is read as 59.
-fn second_of(s: u8) -> u8
+pub fn second_of(s: u8) -> u8
     ensures { result ≡ second s }
 {
     s.min(59)

@@ -1,4 +1,5 @@
 -- What the proofs, and the crates above, cite.
 pub mod GoalLaws
 pub mod NanosecondLaws
+pub mod RefusalLaws
 mod Examples

@@ -1,6 +1,5 @@
 // What a reading gives: the parts that a text shows, or a refusal.
-ghost use Rattle.std.specs.Prelude.{◌≡◌};
-ghost use Rattle.record.specs.Refusals.{refusal_of};
+ghost use Rattle.std.specs.Prelude.{◌≡◌, Ok, Err};
 
 use crate::stamp::{Clock, Date, Name};
 use text::Refusal;
@@ -35,9 +34,10 @@ pub struct Shown {
 
 pub type Reading = Result<Shown, Refusal>;
 
-// 0, or the number of the refusal.
-pub fn reading_refusal(r: Reading) -> u8
-    ensures { result ≡ refusal_of r }
+// 0, or the number of the refusal, which may come as a `Refusal` or as a number.
+pub fn reading_refusal<K: Into<u8>>(r: Result<Shown, K>) -> u8
+    ensures accepted { (s : Shown) → r ≡ Ok s → result ≡ 0 }
+    ensures refused { (k : K) → r ≡ Err k → K.converts k result }
 {
     match r {
         Ok(_) => 0,

@@ -2,18 +2,18 @@
 --     joined       a text put in two steps, the second right after the first
 --     stepwise     the set that a writer of several steps names
 --     at_front     a text put at the front of a buffer, and what is left of the buffer: what a public writer names
---     copied       a text copied into its place
+--     take_more    one byte more of a text
 --     mark_most    a mark has at most one byte
 -- Assumes nothing.
-use mathlib.Core.Path.{◌≡◌, sym, ap, ◌∙◌}
+use mathlib.Core.Path.{◌≡◌, ◌∙◌}
 use mathlib.Core.Bool.{Bool, true, false}
-use mathlib.Core.List.{List, [], ◌∷◌, ◌++◌, append_assoc}
-use Prim.Native.Nat.{ℕ, suc, ◌+◌, ◌-◌, ◌≤◌}
+use mathlib.Core.List.{List, [], ◌∷◌, ◌++◌}
+use Prim.Native.Nat.{ℕ, suc, ◌+◌, ◌<◌, ◌≤◌}
 use native.Mathlib.Nat.{add-zero, add-suc, suc-add, zero-add}
+use native.Mathlib.Numerals.{add-one}
 use native.Mathlib.Omega.{arith}
-use borrow.Rule.Slice.PartMut.{put_mid}
-use lib.ListN.{length, set, length-append, take, drop}
-use lib.Seq.{sets, sets-eq, drop-drop}
+use lib.ListN.{length, set, length-append, get_or, take, drop}
+use lib.Seq.{sets, sets-eq, take-suc}
 use Rattle.text.specs.Put.{mark}
 
 pub joined : (l a b : List ℕ) (i : ℕ) → sets l i (a ++ b) ≡ sets (sets l i a) (i + length a) b
@@ -25,10 +25,8 @@ pub ruleset stepwise = (joined, length-append)
 pub at_front : (b t : List ℕ) → length t ≤ length b → sets b 0 t ≡ t ++ drop (length t) b
 at_front b t h = sets-eq t b 0 (omega arith) ∙ rw zero-add
 
-pub copied : (l t new : List ℕ) (at : ℕ) → at + length t ≤ length l → new ≡ t → put_mid at (at + length t - at) l new ≡ sets l at t
-copied l t new at h e =
-    let k : at + (at + length t - at) ≡ at + length t = omega arith in
-    rw e (ap (λ r. take at l ++ (t ++ r)) (drop-drop (at + length t - at) at l) ∙ ap (λ m. take at l ++ (t ++ drop m l)) k ∙ sym (append_assoc (take at l) t (drop (at + length t) l)) ∙ sym (sets-eq t l at h))
+pub take_more : (t : List ℕ) (i : ℕ) → i < length t → take (i + 1) t ≡ take i t ++ (get_or t i 0 ∷ [])
+take_more t i h = rw add-one (take-suc t i 0 h)
 
 pub mark_most : (on : Bool) (b : ℕ) → length (mark on b) ≤ 1
 mark_most true b = omega arith

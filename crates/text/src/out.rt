@@ -69,14 +69,14 @@ impl Out<'_> {
     }
 
     // A text that the caller lends.
-    #[tactic(auto, using(crate::proofs::OutLaws::copied))]
+    #[tactic(auto, using(crate::proofs::OutLaws::stepwise, crate::proofs::OutLaws::take_more))]
     pub fn bytes(&mut self, s: &[u8])
         requires { Fits self.old s.now }
         ensures { Puts self.old s.now self.new }
     {
-        let next = self.at + s.len();
-        self.buf[self.at..next].copy_from_slice(s);
-        self.at = next;
+        for &b in s {
+            self.byte(b);
+        }
     }
 
     // The part of a lent text of n bytes from place `from` on, as many as there are.

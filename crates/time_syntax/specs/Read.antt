@@ -113,6 +113,10 @@ zulu_byte b = eqb b 90 || eqb b 122
 abbrev pub offset_of : Bool → TimeRead → Option OffsetRead
 offset_of negative t = cond (ltb (second_in t.seconds) 60) (Some (record { negative = negative; time = t })) None
 
+-- the same of a time that may be none
+abbrev pub offset_if : Bool → Option TimeRead → Option OffsetRead
+offset_if negative t = t >>= offset_of negative
+
 abbrev pub shifted : Option OffsetRead → Option (Option UtcRead)
 shifted o = option_map (λ o. Some (UtcRead.Offset o)) o
 

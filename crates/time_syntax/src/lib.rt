@@ -2,7 +2,7 @@
 #![tactic(auto)]
 
 ghost use Rattle.std.specs.Prelude.{◌≡◌};
-ghost use Rattle.time_syntax.specs.Read.{minute_at, seconds_at, past_seconds, time, second_in, fraction_in, nanos_in, digits_in, past, offset_of, utc, past_utc};
+ghost use Rattle.time_syntax.specs.Read.{minute_at, seconds_at, past_seconds, time, second_in, fraction_in, nanos_in, digits_in, past, offset_if, utc, past_utc};
 
 pub mod fraction;
 
@@ -128,10 +128,11 @@ fn past_seconds(t: &[u8], s: Option<Seconds>) -> &[u8]
     }
 }
 
-// An offset from its sign and the time after it. Its second is at most 59.
-pub fn offset_of(negative: bool, time: TimeRead) -> Option<OffsetRead>
-    ensures { result ≡ offset_of negative time }
+// An offset from its sign and the time after it, if there is one. Its second is at most 59.
+pub fn offset_of(negative: bool, time: Option<TimeRead>) -> Option<OffsetRead>
+    ensures { result ≡ offset_if negative time }
 {
+    let time = time?;
     if time.second() < 60 {
         Some(OffsetRead { negative, time })
     } else {
@@ -147,7 +148,7 @@ pub fn read_utc(t: &[u8]) -> Option<Option<UtcRead>>
     match t {
         [b @ (b'Z' | b'z'), ..] => Some(Some(UtcRead::Z(*b))),
         [b @ (b'+' | b'-'), time @ ..] => {
-            let offset = offset_of(*b == b'-', read_time(time)?)?;
+            let offset = offset_of(*b == b'-', read_time(time))?;
             Some(Some(UtcRead::Offset(offset)))
         }
         _ => Some(None),

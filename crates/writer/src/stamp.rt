@@ -39,7 +39,7 @@ fn put_date_time(out: &mut Out<'_>, date: Option<Date>, time: Option<Time>)
 }
 
 #[tactic(auto, using(text::proofs::OutLaws::stepwise), unfolding(crate::specs::Stamp::stamp_text))]
-fn put_stamp(out: &mut Out<'_>, lent: &[u8], s: Stamp)
+pub fn put_stamp(out: &mut Out<'_>, lent: &[u8], s: Stamp)
     requires { Fits out.old (stamp_text lent.now s) }
     ensures { Puts out.old (stamp_text lent.now s) out.new }
 {
