@@ -1,2 +1,3 @@
 -- What the crates above cite.
+mod Examples
 pub mod Exact

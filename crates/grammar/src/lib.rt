@@ -1,11 +1,16 @@
-// Whole texts of document 01's reading grammar: stamps, times, year-months and month-days. Each reader gives what the text keeps of its tree, by
-// value; None where the text is not of the grammar.
+// Whole texts of document 01's reading grammar: stamps, times, year-months and month-days. A reader gives what the text keeps of its tree, by value.
+// Of a text that is not of the grammar one that is named `whole_` gives None, and the other of each kind each part that could be read.
 #![tactic(auto)]
 
-ghost use Rattle.std.specs.Prelude.{◌≡◌};
-ghost use Rattle.grammar.specs.Read.{clock_at, past_clock, with_tail, timed_at, stamp, time_text, year_month_text, month_day_text};
+mod pieces;
+
+ghost use Rattle.std.specs.Prelude.{◌≡◌, ok_or};
+ghost use Rattle.grammar.specs.Read.{timed_at, stamp, time_text, year_month_text, month_day_text};
+ghost use Rattle.grammar.specs.Pieces.{stamp_pieces, time_text_pieces, year_month_pieces, month_day_pieces};
 
 use date_syntax::{DateRead, MonthDayRead};
+pub use pieces::{ClockPieces, Pieces, StampPieces};
+use pieces::{month_day_pieces, stamp_pieces, time_text_pieces, year_month_pieces};
 use tail_syntax::{Tail, read_tail};
 use time_syntax::{TimeRead, UtcRead};
 
@@ -32,51 +37,42 @@ pub struct Tailed<P> {
     pub tail: Tail,
 }
 
-// The time at the front, and how it stands to UTC.
-#[tactic(auto, unfolding(crate::specs::Read::clock_at))]
-fn clock_at(t: &[u8], lead: Option<u8>) -> Option<ClockRead>
-    ensures { result ≡ clock_at lead t.now }
-{
-    let time = time_syntax::read_time(t)?;
-    let utc = time_syntax::read_utc(time.past(t))?;
-    Some(ClockRead { lead, time, utc })
-}
-
-impl ClockRead {
-    // What follows the time and its UTC part in a text that they stand at the front of.
-    fn past(self, t: &[u8]) -> &[u8]
-        ensures { result.now ≡ past_clock self t.now }
-    {
-        time_syntax::past_utc(self.time.past(t), self.utc)
-    }
-}
-
-// A part that was read, and the tail that the text t after it has to be.
-fn with_tail<P: Copy>(part: P, t: &[u8]) -> Option<Tailed<P>>
-    ensures { result ≡ with_tail part t.now }
-{
-    let tail = read_tail(t)?;
-    Some(Tailed { part, tail })
-}
-
-// A clock and the tail, after the byte before the clock.
-#[tactic(auto, unfolding(crate::specs::Read::timed_at))]
+// A time, how it stands to UTC, and the tail; after the byte before the time.
+#[tactic(auto, unfolding(crate::specs::Read::clock_at, crate::specs::Read::timed_at))]
 fn timed_at(t: &[u8], lead: Option<u8>) -> Option<Tailed<ClockRead>>
     ensures { result ≡ timed_at lead t.now }
 {
-    let clock = clock_at(t, lead)?;
-    with_tail(clock, clock.past(t))
+    let Some(time) = &time_syntax::read_time(t) else {
+        return None;
+    };
+    let r = time.past(t);
+    let Some(utc) = &time_syntax::read_utc(r) else {
+        return None;
+    };
+    let Some(tail) = &read_tail(time_syntax::past_utc(r, *utc)) else {
+        return None;
+    };
+    Some(Tailed {
+        part: ClockRead {
+            lead,
+            time: *time,
+            utc: *utc,
+        },
+        tail: *tail,
+    })
 }
 
 // A stamp text.
 #[tactic(auto, unfolding(crate::specs::Read::stamp))]
-pub fn read_stamp(t: &[u8]) -> Option<StampRead>
+pub fn whole_stamp(t: &[u8]) -> Option<StampRead>
     ensures { result ≡ stamp t.now }
 {
     let date = date_syntax::read_date(t)?;
     match date_syntax::after_date(t, date) {
         [sep @ (b'T' | b't' | b' '), r @ ..] => {
-            let timed = timed_at(r, Some(*sep))?;
+            let Some(timed) = &timed_at(r, Some(*sep)) else {
+                return None;
+            };
             Some(StampRead {
                 date,
                 clock: Some(timed.part),
@@ -84,11 +80,13 @@ pub fn read_stamp(t: &[u8]) -> Option<StampRead>
             })
         }
         r => {
-            let tail = read_tail(r)?;
+            let Some(tail) = &read_tail(r) else {
+                return None;
+            };
             Some(StampRead {
                 date,
                 clock: None,
-                tail,
+                tail: *tail,
             })
         }
     }
@@ -96,7 +94,7 @@ pub fn read_stamp(t: &[u8]) -> Option<StampRead>
 
 // A time text.
 #[tactic(auto, unfolding(crate::specs::Read::time_text))]
-pub fn read_time_text(t: &[u8]) -> Option<Tailed<ClockRead>>
+pub fn whole_time_text(t: &[u8]) -> Option<Tailed<ClockRead>>
     ensures { result ≡ time_text t.now }
 {
     match t {
@@ -107,18 +105,52 @@ pub fn read_time_text(t: &[u8]) -> Option<Tailed<ClockRead>>
 
 // A year-month text.
 #[tactic(auto, unfolding(crate::specs::Read::year_month_text))]
-pub fn read_year_month_text(t: &[u8]) -> Option<Tailed<DateRead>>
+pub fn whole_year_month_text(t: &[u8]) -> Option<Tailed<DateRead>>
     ensures { result ≡ year_month_text t.now }
 {
-    let date = date_syntax::read_year_month(t)?;
-    with_tail(date, date_syntax::after_year_month(t, date))
+    let part = date_syntax::read_year_month(t)?;
+    let Some(tail) = &read_tail(date_syntax::after_year_month(t, part)) else {
+        return None;
+    };
+    Some(Tailed { part, tail: *tail })
 }
 
 // A month-day text.
 #[tactic(auto, unfolding(crate::specs::Read::month_day_text))]
-pub fn read_month_day_text(t: &[u8]) -> Option<Tailed<MonthDayRead>>
+pub fn whole_month_day_text(t: &[u8]) -> Option<Tailed<MonthDayRead>>
     ensures { result ≡ month_day_text t.now }
 {
-    let day = date_syntax::read_month_day(t)?;
-    with_tail(day, date_syntax::after_month_day(t, day))
+    let part = date_syntax::read_month_day(t)?;
+    let Some(tail) = &read_tail(date_syntax::after_month_day(t, part)) else {
+        return None;
+    };
+    Some(Tailed { part, tail: *tail })
+}
+
+// A stamp text; else what could be read of it.
+pub fn read_stamp(t: &[u8]) -> Result<StampRead, StampPieces>
+    ensures { result ≡ ok_or (stamp t.now) (stamp_pieces t.now) }
+{
+    whole_stamp(t).ok_or_else(|| stamp_pieces(t))
+}
+
+// A time text; else what could be read of it.
+pub fn read_time_text(t: &[u8]) -> Result<Tailed<ClockRead>, Pieces<ClockPieces>>
+    ensures { result ≡ ok_or (time_text t.now) (time_text_pieces t.now) }
+{
+    whole_time_text(t).ok_or_else(|| time_text_pieces(t))
+}
+
+// A year-month text; else what could be read of it.
+pub fn read_year_month_text(t: &[u8]) -> Result<Tailed<DateRead>, Pieces<Option<DateRead>>>
+    ensures { result ≡ ok_or (year_month_text t.now) (year_month_pieces t.now) }
+{
+    whole_year_month_text(t).ok_or_else(|| year_month_pieces(t))
+}
+
+// A month-day text; else what could be read of it.
+pub fn read_month_day_text(t: &[u8]) -> Result<Tailed<MonthDayRead>, Pieces<Option<MonthDayRead>>>
+    ensures { result ≡ ok_or (month_day_text t.now) (month_day_pieces t.now) }
+{
+    whole_month_day_text(t).ok_or_else(|| month_day_pieces(t))
 }

@@ -91,5 +91,5 @@ fn plain_stamp(w: StampRead) -> bool
 pub fn recognise(t: &[u8]) -> bool
     ensures { Recognised t.now result }
 {
-    (t.len() <= LONGEST_STAMP) && grammar::read_stamp(t).is_some_and(plain_stamp)
+    (t.len() <= LONGEST_STAMP) && grammar::whole_stamp(t).is_some_and(plain_stamp)
 }

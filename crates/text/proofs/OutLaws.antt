@@ -3,9 +3,10 @@
 --     stepwise     the set that a writer of several steps names
 --     at_front     a text put at the front of a buffer, and what is left of the buffer: what a public writer names
 --     take_more    one byte more of a text
+--     one_more     that byte put after those before it
 --     mark_most    a mark has at most one byte
 -- Assumes nothing.
-use mathlib.Core.Path.{◌≡◌, ◌∙◌}
+use mathlib.Core.Path.{◌≡◌, ◌∙◌, refl}
 use mathlib.Core.Bool.{Bool, true, false}
 use mathlib.Core.List.{List, [], ◌∷◌, ◌++◌}
 use Prim.Native.Nat.{ℕ, suc, ◌+◌, ◌<◌, ◌≤◌}
@@ -14,7 +15,7 @@ use native.Mathlib.Numerals.{add-one}
 use native.Mathlib.Omega.{arith}
 use lib.ListN.{length, set, length-append, get_or, take, drop}
 use lib.Seq.{sets, sets-eq, take-suc}
-use Rattle.text.specs.Put.{mark}
+use Rattle.text.specs.Put.{Put, mark}
 
 pub joined : (l a b : List ℕ) (i : ℕ) → sets l i (a ++ b) ≡ sets (sets l i a) (i + length a) b
 joined l [] b i = rw add-zero
@@ -27,6 +28,12 @@ at_front b t h = sets-eq t b 0 (omega arith) ∙ rw zero-add
 
 pub take_more : (t : List ℕ) (i : ℕ) → i < length t → take (i + 1) t ≡ take i t ++ (get_or t i 0 ∷ [])
 take_more t i h = rw add-one (take-suc t i 0 h)
+
+pub one_more : (b t c u : List ℕ) (at r s x : ℕ) → u ≡ t ++ (x ∷ []) → s ≡ r + 1 → Put b at t c r → Put b at u (set c r x) s
+one_more b t c u at r s x e f p = record {
+  next = rw (e, length-append) (omega (arith, f, p.next));
+  text = rw (e, joined, p.text, ← p.next) refl;
+}
 
 pub mark_most : (on : Bool) (b : ℕ) → length (mark on b) ≤ 1
 mark_most true b = omega arith

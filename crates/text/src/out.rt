@@ -69,14 +69,16 @@ impl Out<'_> {
     }
 
     // A text that the caller lends.
-    #[tactic(auto, using(crate::proofs::OutLaws::stepwise, crate::proofs::OutLaws::take_more))]
     pub fn bytes(&mut self, s: &[u8])
         requires { Fits self.old s.now }
         ensures { Puts self.old s.now self.new }
     {
-        for &b in s {
-            self.byte(b);
+        let at = self.at;
+        let buf = &mut *self.buf;
+        for (i, &b) in s.iter().enumerate() {
+            buf[at + i] = b;
         }
+        self.at = at + s.len();
     }
 
     // The part of a lent text of n bytes from place `from` on, as many as there are.

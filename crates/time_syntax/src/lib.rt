@@ -72,7 +72,9 @@ pub fn read_time(t: &[u8]) -> Option<TimeRead>
 {
     let hour = names::field::two(t, 0, 23)?;
     let minute = minute_at(text::walk::rest(t, 2))?;
-    let seconds = seconds_at(text::walk::rest(t, 5))?;
+    let Some(seconds) = seconds_at(text::walk::rest(t, 5)) else {
+        return None;
+    };
     Some(TimeRead {
         hour,
         minute,
@@ -132,7 +134,9 @@ fn past_seconds(t: &[u8], s: Option<Seconds>) -> &[u8]
 pub fn offset_of(negative: bool, time: Option<TimeRead>) -> Option<OffsetRead>
     ensures { result ≡ offset_if negative time }
 {
-    let time = time?;
+    let Some(time) = time else {
+        return None;
+    };
     if time.second() < 60 {
         Some(OffsetRead { negative, time })
     } else {
@@ -140,7 +144,9 @@ pub fn offset_of(negative: bool, time: Option<TimeRead>) -> Option<OffsetRead>
     }
 }
 
-// What may follow a time: nothing, `Z`, or an offset. None of the grammar where a sign has no offset.
+// What may follow a time: nothing, `Z`, or an offset. None of the grammar where a sign has no offset. It is kept out of its callers, which would
+// carry each part of an offset through three answers.
+#[inline(never)]
 #[tactic(auto, unfolding(crate::specs::Read::utc))]
 pub fn read_utc(t: &[u8]) -> Option<Option<UtcRead>>
     ensures { result ≡ utc t.now }
@@ -148,7 +154,9 @@ pub fn read_utc(t: &[u8]) -> Option<Option<UtcRead>>
     match t {
         [b @ (b'Z' | b'z'), ..] => Some(Some(UtcRead::Z(*b))),
         [b @ (b'+' | b'-'), time @ ..] => {
-            let offset = offset_of(*b == b'-', read_time(time))?;
+            let Some(offset) = offset_of(*b == b'-', read_time(time)) else {
+                return None;
+            };
             Some(Some(UtcRead::Offset(offset)))
         }
         _ => Some(None),

@@ -17,12 +17,12 @@ tested None e = e
 tested (Some w) e = e
 
 pub is_some_and-requires : goal.is_some_and-requires
-is_some_and-requires c = λ w e. stamp_small c.args.t.now (sym c.read_stamp.ensures ∙ e)
+is_some_and-requires c = λ w e. stamp_small c.args.t.now (sym c.whole_stamp.ensures ∙ e)
 
 pub returns-then-t-le-LONGEST_STAMP : goal.returns-then-t-le-LONGEST_STAMP
 unfolding recognises
 returns-then-t-le-LONGEST_STAMP c =
-    let e : c.is_some_and.result ≡ plain_read (stamp c.args.t.now) = tested c.read_stamp.result c.is_some_and.ensures ∙ ap plain_read c.read_stamp.ensures in
+    let e : c.is_some_and.result ≡ plain_read (stamp c.args.t.now) = tested c.whole_stamp.result c.is_some_and.ensures ∙ ap plain_read c.whole_stamp.ensures in
     answered c.args.t.now (search (tests, e))
 
 pub returns-else-t-le-LONGEST_STAMP : goal.returns-else-t-le-LONGEST_STAMP
