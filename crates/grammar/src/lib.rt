@@ -1,5 +1,5 @@
 // Whole texts of document 01's reading grammar: stamps, times, year-months and month-days. A reader gives what the text keeps of its tree, by value.
-// Of a text that is not of the grammar one that is named `whole_` gives None, and the other of each kind each part that could be read.
+// Each kind has two: of a text that is not of the grammar `whole_..` gives None, and `read_..` each part that could be read.
 #![tactic(auto)]
 
 mod pieces;
