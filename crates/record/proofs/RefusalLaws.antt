@@ -1,4 +1,4 @@
--- What `reading_refusal` answers of a reading: the number of document 01. Assumes nothing.
+-- What `refusal_number` answers of a reading: the number of document 01. Assumes nothing.
 --     told     0 where it was accepted, and the number of its refusal where it was refused: that is `refusal_of`
 use mathlib.Core.Path.{◌≡◌, refl}
 use Prim.Native.Nat.{ℕ}

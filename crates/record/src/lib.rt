@@ -9,7 +9,9 @@ pub mod stamp;
 
 pub use duration::{DateDuration, Duration, TimeDuration};
 pub use goal::Goal;
-pub use shown::{MarkedName, Reading, Shown, ShownOffset, SignedClock, reading_refusal};
+pub use shown::{
+    MarkedName, Reading, Shown, ShownOffset, SignedClock, reading_refusal, refusal_number,
+};
 pub use stamp::{
     Calendar, Clock, Date, DisplayCalendar, DisplayOffset, DisplayTimeZone, Name, Offset,
     Precision, Sign, SignedTime, Stamp, Time, UtcOffset, Zone, joined_nanosecond,

@@ -15,7 +15,9 @@ pub use record::{
 };
 
 // Goals, and what a reading shows.
-pub use record::{Goal, MarkedName, Reading, Shown, ShownOffset, SignedClock, reading_refusal};
+pub use record::{
+    Goal, MarkedName, Reading, Shown, ShownOffset, SignedClock, reading_refusal, refusal_number,
+};
 
 // Digits and checks.
 pub use iso::{is_leap, is_valid_date, is_valid_time, iso_days_in_month};

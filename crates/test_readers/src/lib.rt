@@ -5,7 +5,7 @@
 
 use reader::goals::read_number;
 use reader::parts;
-use record::{MarkedName, Shown, reading_refusal};
+use record::{MarkedName, Shown, refusal_number};
 use test_lines::answer::Answer;
 use test_lines::fields::{Fields, Text};
 use test_lines::judged::NotJudged;
@@ -36,7 +36,7 @@ where
     let t = text.as_slice();
     let reading = read_number(goal, t);
     let part = reading.ok().and_then(shown);
-    answer.add(reading_refusal(reading));
+    answer.add(refusal_number(reading));
     add_part(answer, t, part.map(|part| part.name), returned(goal, t));
     Some(())
 }
